@@ -1,0 +1,177 @@
+-- The order of fractions in natural numbers, and what each operation of the arithmetic makes of an error: where a
+-- whole number lies within p of a fraction, the results of the two readings lie within what the laws here say.
+-- The rounding step's error is shown here, once, for all A, B, C and d.
+-- Assumes nothing.
+use Prim.Native.Nat.{ℕ, zero, suc, _+_, _*_, _≤_, _<_, min}
+use mathlib.Core.Path.{_≡_, refl, ap, sym, subst}
+use mathlib.Core.Logic.{_↔_, _⊎_, inl, inr, ⊎-elim}
+use mathlib.Core.Bool.{Bool, true, false, cond}
+use native.Mathlib.Nat.{mul-le-mul-right, le-of-mul-le-mul-right, add-mul, min-comm, min-le-left, min-eq-left, min-eq-right, le-of-lt, lt-of-not-le}
+use native.Mathlib.Decide.{decLe}
+use native.Mathlib.Omega.{arith}
+use lib.IntN.{pos, _*ℤ_}
+use lib.Signed.{leZ, leZ-yes}
+use lib.Dec.{T}
+use Rattle.numbers.specs.Near.{near}
+use Rattle.numbers.specs.Fraction.{Fraction, whole, half, sum, multiple, quotient, least, AtMost, Within}
+use Rattle.numbers.specs.Arithmetic.{Close, Weights, weighted, rounded, exact}
+use Rattle.numbers.proofs.Rounding.{near-error}
+use Rattle.numbers.proofs.Whole.{up, down, order, otherwise, of-sum, up-of-multiple, down-of-multiple}
+
+abbrev U : Fraction → ℕ
+U f = up (f .upper)
+
+abbrev D : Fraction → ℕ
+D f = down (f .upper)
+
+abbrev L : Fraction → ℕ
+L f = f .lower
+
+in-naturals : (f g : Fraction) → AtMost f g ↔ (U f * L g + D g * L f ≤ U g * L f + D f * L g)
+in-naturals f g =
+    let e₁ = up-of-multiple (f .upper) (L g) in
+    let e₂ = down-of-multiple (f .upper) (L g) in
+    let e₃ = up-of-multiple (g .upper) (L f) in
+    let e₄ = down-of-multiple (g .upper) (L f) in
+    ((λ h. omega (arith, order _ _ .0 h)), (λ h. order _ _ .1 (omega arith)))
+
+upper-of-sum : (f g : Fraction) → U (sum f g) + (D f * L g + D g * L f) ≡ U f * L g + U g * L f + D (sum f g)
+unfolding sum
+upper-of-sum f g =
+    let e₁ = up-of-multiple (f .upper) (L g) in
+    let e₂ = down-of-multiple (f .upper) (L g) in
+    let e₃ = up-of-multiple (g .upper) (L f) in
+    let e₄ = down-of-multiple (g .upper) (L f) in
+    omega (arith, of-sum (f .upper *ℤ pos (L g)) (g .upper *ℤ pos (L f)))
+
+-- f ≤ g + l
+below-sum : (f g l : Fraction)
+    → AtMost f (sum g l) ↔ (U f * (L g * L l) + (D g * L l + D l * L g) * L f ≤ (U g * L l + U l * L g) * L f + D f * (L g * L l))
+unfolding sum
+below-sum f g l =
+    let e = ap (λ n. n * L f) (upper-of-sum g l) in
+    ((λ h. omega (arith, in-naturals f (sum g l) .0 h)), (λ h. in-naturals f (sum g l) .1 (omega arith)))
+
+-- a whole number x - y is at most a fraction and a limit together
+abbrev OneSided : ℕ → ℕ → ℕ → ℕ → ℕ → ℕ → ℕ → ℕ → Type 0
+OneSided x y Uf Df Lf Up Dp Lp = x * (Lf * Lp) + Df * Lp + Dp * Lf ≤ Uf * Lp + Up * Lf + y * (Lf * Lp)
+
+-- closeness, as n ≤ f + p and -n ≤ -f + p
+record Apart (p : Fraction) (n : ℕ) (f : Fraction) : Type 0 where
+  above : OneSided n 0 (U f) (D f) (L f) (U p) (D p) (L p)
+  below : OneSided 0 n (D f) (U f) (L f) (U p) (D p) (L p)
+
+apart : {p : Fraction} {n : ℕ} {f : Fraction} → Close p n f → Apart p n f
+unfolding whole
+apart {p} {n} {f} h =
+    record {
+      above = omega (arith, below-sum (whole n) f p .0 (h .within .above));
+      below = omega (arith, below-sum f (whole n) p .0 (h .within .below));
+    }
+
+close : {p : Fraction} {n : ℕ} {f : Fraction} → Apart p n f → Close p n f
+unfolding whole
+close {p} {n} {f} h =
+    record { within = record { above = below-sum (whole n) f p .1 (omega arith); below = below-sum f (whole n) p .1 (omega arith) } }
+
+pub close-number : (n : ℕ) → Close (whole 0) n (whole n)
+unfolding whole
+close-number n = close (record { above = omega arith; below = omega arith })
+
+-- an inequality over the product of two lowers on either side
+scaled : (x y Uf Df Lf Lg Up Dp Lp Lq : ℕ) → OneSided x y Uf Df Lf Up Dp Lp
+    → x * (Lf * Lg * (Lp * Lq)) + Df * Lg * (Lp * Lq) + Dp * Lq * (Lf * Lg) ≤ Uf * Lg * (Lp * Lq) + Up * Lq * (Lf * Lg) + y * (Lf * Lg * (Lp * Lq))
+scaled x y Uf Df Lf Lg Up Dp Lp Lq h = omega (arith, mul-le-mul-right (Lg * Lq) h)
+
+scaled′ : (x y Ug Dg Lf Lg Uq Dq Lp Lq : ℕ) → OneSided x y Ug Dg Lg Uq Dq Lq
+    → x * (Lf * Lg * (Lp * Lq)) + Dg * Lf * (Lp * Lq) + Dq * Lp * (Lf * Lg) ≤ Ug * Lf * (Lp * Lq) + Uq * Lp * (Lf * Lg) + y * (Lf * Lg * (Lp * Lq))
+scaled′ x y Ug Dg Lf Lg Uq Dq Lp Lq h = omega (arith, mul-le-mul-right (Lf * Lp) h)
+
+scaled-sum : (Uf Df Lf Ug Dg Lg Us Ds k : ℕ) → Us + (Df * Lg + Dg * Lf) ≡ Uf * Lg + Ug * Lf + Ds
+    → Us * k + (Df * Lg * k + Dg * Lf * k) ≡ Uf * Lg * k + Ug * Lf * k + Ds * k
+scaled-sum Uf Df Lf Ug Dg Lg Us Ds k s = omega (arith, ap (λ x. x * k) s)
+
+sum-one-sided : (x x′ y y′ Uf Df Lf Ug Dg Lg Up Dp Lp Uq Dq Lq Us Ds Ut Dt : ℕ)
+    → OneSided x y Uf Df Lf Up Dp Lp → OneSided x′ y′ Ug Dg Lg Uq Dq Lq
+    → Us + (Df * Lg + Dg * Lf) ≡ Uf * Lg + Ug * Lf + Ds
+    → Ut + (Dp * Lq + Dq * Lp) ≡ Up * Lq + Uq * Lp + Dt
+    → OneSided (x + x′) (y + y′) Us Ds (Lf * Lg) Ut Dt (Lp * Lq)
+sum-one-sided x x′ y y′ Uf Df Lf Ug Dg Lg Up Dp Lp Uq Dq Lq Us Ds Ut Dt h k s t =
+    omega (arith, add-mul x x′ (Lf * Lg * (Lp * Lq)), add-mul y y′ (Lf * Lg * (Lp * Lq)), scaled x y Uf Df Lf Lg Up Dp Lp Lq h, scaled′ x′ y′ Ug Dg Lf Lg Uq Dq Lp Lq k, scaled-sum Uf Df Lf Ug Dg Lg Us Ds (Lp * Lq) s, scaled-sum Up Dp Lp Uq Dq Lq Ut Dt (Lf * Lg) t)
+
+pub close-sum : {p q : Fraction} {m n : ℕ} {f g : Fraction} → Close p m f → Close q n g → Close (sum p q) (m + n) (sum f g)
+unfolding sum
+close-sum {p} {q} {m} {n} {f} {g} h k =
+    let s = upper-of-sum f g in
+    let t = upper-of-sum p q in
+    close
+    (record {
+      above = sum-one-sided m n 0 0 (U f) (D f) (L f) (U g) (D g) (L g) (U p) (D p) (L p) (U q) (D q) (L q) (U (sum f g)) (D (sum f g)) (U (sum p q)) (D (sum p q)) (apart h .above) (apart k .above) s t;
+      below = sum-one-sided 0 0 m n (D f) (U f) (L f) (D g) (U g) (L g) (U p) (D p) (L p) (U q) (D q) (L q) (D (sum f g)) (U (sum f g)) (U (sum p q)) (D (sum p q)) (apart h .below) (apart k .below) (omega arith) t;
+    })
+
+pub close-multiple : (k : ℕ) {p : Fraction} {n : ℕ} {f : Fraction} → Close p n f → Close (multiple k p) (k * n) (multiple k f)
+unfolding multiple
+close-multiple k {p} {n} {f} h =
+    let e₁ = ap (λ x. x * L p) (up-of-multiple (f .upper) k) in
+    let e₂ = ap (λ x. x * L p) (down-of-multiple (f .upper) k) in
+    let e₃ = ap (λ x. x * L f) (up-of-multiple (p .upper) k) in
+    let e₄ = ap (λ x. x * L f) (down-of-multiple (p .upper) k) in
+    close
+    (record {
+      above = omega (arith, mul-le-mul-right k (apart h .above));
+      below = omega (arith, mul-le-mul-right k (apart h .below));
+    })
+
+-- rounding adds one half
+pub close-quotient : (d : ℕ) {p : Fraction} {n : ℕ} {f : Fraction} → 0 < d → Close p n f → Close (sum (quotient p d) half) (near n d) (quotient f d)
+unfolding quotient half sum
+close-quotient zero h k = absurd (omega arith)
+close-quotient (suc d) {p} {n} {f} h k =
+    let r = near-error n (suc d) h in
+    let e = ap (λ x. x * (L f * suc d)) (upper-of-sum (quotient p (suc d)) half) in
+    close
+    (record {
+      above = omega (arith, mul-le-mul-right (2 * suc d) (apart k .above), mul-le-mul-right (L f * (L p * suc d)) (r .above));
+      below = omega (arith, mul-le-mul-right (2 * suc d) (apart k .below), mul-le-mul-right (L f * (L p * suc d)) (r .below));
+    })
+
+-- the smaller fraction, its whole number and another's
+at-least : {p : Fraction} {m n : ℕ} {f g : Fraction} → AtMost f g → Close p m f → Close p n g → Close p (min m n) f
+at-least {p} {m} {n} {f} {g} h k l =
+    let h′ = mul-le-mul-right (L p) (in-naturals f g .0 h) in
+    let below-n : OneSided 0 n (D f) (U f) (L f) (U p) (D p) (L p) =
+    le-of-mul-le-mul-right {k = L g} (omega (arith, mul-le-mul-right (L f) (apart l .below))) (g .above-zero) in
+    close
+    (record {
+      above = omega (arith, mul-le-mul-right (L f * L p) (min-le-left m n), apart k .above);
+      below = ⊎-elim (λ e. omega (arith, ap (λ x. x * (L f * L p)) e, apart k .below)) (λ e. omega (arith, ap (λ x. x * (L f * L p)) e)) (one-of m n);
+    })
+  where
+    one-of : (a b : ℕ) → (min a b ≡ a) ⊎ (min a b ≡ b)
+    one-of a b = elim (decLe a b) [ yes i ↦ inl (min-eq-left i) | no i ↦ inr (min-eq-right (le-of-lt (lt-of-not-le i))) ]
+
+pub close-least : {p : Fraction} {m n : ℕ} {f g : Fraction} → Close p m f → Close p n g → Close p (min m n) (least f g)
+unfolding least
+close-least {p} {m} {n} {f} {g} h k = go (leZ (f .upper *ℤ pos (L g)) (g .upper *ℤ pos (L f))) refl
+  where
+    go : (t : Bool) → leZ (f .upper *ℤ pos (L g)) (g .upper *ℤ pos (L f)) ≡ t → Close p (min m n) (cond t f g)
+    go true e = at-least (leZ-yes (subst T (sym e) tt)) h k
+    go false e = subst (λ x. Close p x g) (min-comm n m) (at-least (otherwise _ _ e) k h)
+
+-- a larger limit
+pub close-weaken : {p q : Fraction} {n : ℕ} {f : Fraction} → AtMost p q → Close p n f → Close q n f
+close-weaken {p} {q} {n} {f} h k =
+    let h′ = mul-le-mul-right (L f) (in-naturals p q .0 h) in
+    close
+    (record {
+      above = le-of-mul-le-mul-right {k = L p} (omega (arith, mul-le-mul-right (L q) (apart k .above))) (p .above-zero);
+      below = le-of-mul-le-mul-right {k = L p} (omega (arith, mul-le-mul-right (L q) (apart k .below))) (p .above-zero);
+    })
+
+-- the rounding step: its error is the same step over the errors, and one half
+pub close-weighted : (w : Weights) {p q r : Fraction} {f u v : ℕ} {f̂ û v̂ : Fraction} → 0 < w .d → Close p f f̂ → Close q u û → Close r v v̂
+    → Close (sum (weighted exact w p q r) half) (weighted rounded w f u v) (weighted exact w f̂ û v̂)
+unfolding weighted
+close-weighted w h k l m =
+    close-quotient (w .d) h (close-sum (close-sum (close-multiple (w .A) k) (close-multiple (w .B) l)) (close-multiple (w .C) m))

@@ -1,0 +1,4 @@
+pub mod Rounding
+mod Whole
+pub mod Fractions
+mod Examples

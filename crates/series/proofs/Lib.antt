@@ -1,0 +1,5 @@
+pub mod Views
+pub mod Alone
+pub mod Refusing
+pub mod Tests
+mod Examples

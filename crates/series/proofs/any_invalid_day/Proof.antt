@@ -1,0 +1,65 @@
+-- `series::any_invalid_day` meets its contract: the days before i are valid, so the cause holds of the list where it holds of the
+-- days from i on.
+-- Assumes nothing.
+use Prim.Native.Nat.{_-_}
+use mathlib.Core.Path.{_≡_, refl}
+use native.Mathlib.Omega.{arith}
+use lib.ListN.{length, drop}
+use denote.Ref.{now}
+use Rattle.series.specs.Lists.{anyInvalidDay}
+use Rattle.series.proofs.Tests.{invalid-day, valid-day, all-valid}
+use Rattle.series.proofs.any_invalid_day.Statement.{statement}
+use Rattle.series.proofs.any_invalid_day.Tie as tie
+
+abbrev Inv-loop : tie.InvT-loop
+Inv-loop days i₀ i = anyInvalidDay days ≡ anyInvalidDay (drop i days)
+
+abbrev μ-loop : tie.MeasureT-loop
+μ-loop days i₀ i = length days - i
+
+loop-holds : tie.Need-loop-holds Inv-loop μ-loop
+loop-holds c = refl
+
+mul-is-invalid-day : tie.Need-mul-is-invalid-day Inv-loop μ-loop
+mul-is-invalid-day c = omega arith
+
+shared-slice-read-is-invalid-day : tie.Need-shared-slice-read-is-invalid-day Inv-loop μ-loop
+shared-slice-read-is-invalid-day c = omega arith
+
+is-invalid-day-requires : tie.Need-is-invalid-day-requires Inv-loop μ-loop
+is-invalid-day-requires c κs = tt
+
+returns : tie.Need-returns Inv-loop μ-loop
+returns c =
+    let l = c .before .before .before in
+    invalid-day (now (l .before .before .before .args .days)) (l .before .loop .i) (l .before .loop .inv) (l .loop-test .taken) (c .before .is-invalid-day .ensures) (c .if1 .taken)
+
+add-i : tie.Need-add-i Inv-loop μ-loop
+add-i c = omega arith
+
+loop-less : tie.Need-loop-less Inv-loop μ-loop
+loop-less c = omega arith
+
+loop-again : tie.Need-loop-again Inv-loop μ-loop
+loop-again c =
+    let l = c .before .before .before in
+    valid-day (now (l .before .before .before .args .days)) (l .before .loop .i) (l .before .loop .inv) (l .loop-test .taken) (c .before .is-invalid-day .ensures) (c .if1 .left)
+
+returns-2 : tie.Need-returns-2 Inv-loop μ-loop
+returns-2 c = all-valid (now (c .before .before .before .args .days)) (c .before .loop .i) (c .before .loop .inv) (c .loop-test .left)
+
+pub any-invalid-day-spec : {M : Type 1} → statement M
+any-invalid-day-spec =
+    tie.close
+    (tie.spec
+    Inv-loop
+    μ-loop
+    loop-holds
+    mul-is-invalid-day
+    shared-slice-read-is-invalid-day
+    is-invalid-day-requires
+    returns
+    add-i
+    loop-less
+    loop-again
+    returns-2)

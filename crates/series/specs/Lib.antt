@@ -1,0 +1,4 @@
+pub mod Units
+pub mod Segments
+pub mod Causes
+pub mod Lists

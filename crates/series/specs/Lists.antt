@@ -1,0 +1,39 @@
+-- The causes of refusal that several calls share: 9, 14, 10 and 20.
+use Prim.Native.Nat.{ℕ, _*_}
+use mathlib.Core.Bool.{Bool, true, false, not, _||_}
+use mathlib.Core.List.{List, [], _∷_}
+use mathlib.Core.Option.{Option, none, some}
+use lib.ListN.{length}
+use lib.Dec.{ltb, eqb}
+use Rattle.series.specs.Units.{dayLimit, isInvalidDay, dayOf, baseOf}
+use Rattle.series.specs.Causes.{Cause, cause}
+
+-- 9: day list over 36,525 long
+unfoldable pub tooLong : List ℕ → Bool
+tooLong days = ltb dayLimit (length days)
+
+-- 14: base list and day list differ in length
+unfoldable pub lengthsDiffer : List ℕ → List ℕ → Bool
+lengthsDiffer days base = not (eqb (length days) (length base))
+
+-- 10: a day neither flow nor missing
+unfoldable pub anyInvalidDay : List ℕ → Bool
+anyInvalidDay [] = false
+anyInvalidDay (d ∷ ds) = isInvalidDay d || anyInvalidDay ds
+
+-- base value on a missing day or above 1000 × the day's flow
+unfoldable pub isInvalidBase : Option ℕ → Option ℕ → Bool
+isInvalidBase d none = false
+isInvalidBase none (some b) = true
+isInvalidBase (some y) (some b) = ltb (1000 * y) b
+
+-- 20: that on some day of two lists
+unfoldable pub anyInvalidBase : List ℕ → List ℕ → Bool
+anyInvalidBase [] bs = false
+anyInvalidBase (d ∷ ds) [] = false
+anyInvalidBase (d ∷ ds) (b ∷ bs) = isInvalidBase (dayOf d) (baseOf b) || anyInvalidBase ds bs
+
+-- the part of their order that filters, minima line and totals share
+unfoldable pub listCauses : List ℕ → List ℕ → List Cause
+listCauses days base =
+    cause (tooLong days) 9 ∷ cause (lengthsDiffer days base) 14 ∷ cause (anyInvalidDay days) 10 ∷ []
