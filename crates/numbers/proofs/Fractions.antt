@@ -2,32 +2,32 @@
 -- whole number lies within p of a fraction, the results of the two readings lie within what the laws here say.
 -- The rounding step's error is shown here, once, for all A, B, C and d.
 -- Assumes nothing.
-use Prim.Native.Nat.{ℕ, zero, suc, _+_, _*_, _≤_, _<_, min}
+use Prim.Native.Nat.{ℕ, zero, suc, _+_, _*_, _-_, _≤_, _<_, min}
 use mathlib.Core.Path.{_≡_, refl, ap, sym, subst}
 use mathlib.Core.Logic.{_↔_, _⊎_, inl, inr, ⊎-elim}
 use mathlib.Core.Bool.{Bool, true, false, cond}
-use native.Mathlib.Nat.{mul-le-mul-right, le-of-mul-le-mul-right, add-mul, min-comm, min-le-left, min-eq-left, min-eq-right, le-of-lt, lt-of-not-le}
+use native.Mathlib.Nat.{mul-le-mul-right, le-of-mul-le-mul-right, add-mul, sub-add-cancel, min-comm, min-le-left, min-eq-left, min-eq-right, le-of-lt, lt-of-not-le}
 use native.Mathlib.Decide.{decLe}
 use native.Mathlib.Omega.{arith}
 use lib.IntN.{pos, _*ℤ_}
 use lib.Signed.{leZ, leZ-yes}
 use lib.Dec.{T}
 use Rattle.numbers.specs.Near.{near}
-use Rattle.numbers.specs.Fraction.{Fraction, whole, half, sum, multiple, quotient, least, AtMost, Within}
+use Rattle.numbers.specs.Fraction.{Fraction, whole, half, sum, opposite, difference, multiple, quotient, least, AtMost, Within}
 use Rattle.numbers.specs.Arithmetic.{Close, Weights, weighted, rounded, exact}
 use Rattle.numbers.proofs.Rounding.{near-error}
-use Rattle.numbers.proofs.Whole.{up, down, order, otherwise, of-sum, up-of-multiple, down-of-multiple}
+use Rattle.numbers.proofs.Whole.{up, down, up-of-minus, down-of-minus, order, otherwise, of-sum, up-of-multiple, down-of-multiple}
 
-abbrev U : Fraction → ℕ
+abbrev pub U : Fraction → ℕ
 U f = up (f .upper)
 
-abbrev D : Fraction → ℕ
+abbrev pub D : Fraction → ℕ
 D f = down (f .upper)
 
-abbrev L : Fraction → ℕ
+abbrev pub L : Fraction → ℕ
 L f = f .lower
 
-in-naturals : (f g : Fraction) → AtMost f g ↔ (U f * L g + D g * L f ≤ U g * L f + D f * L g)
+pub in-naturals : (f g : Fraction) → AtMost f g ↔ (U f * L g + D g * L f ≤ U g * L f + D f * L g)
 in-naturals f g =
     let e₁ = up-of-multiple (f .upper) (L g) in
     let e₂ = down-of-multiple (f .upper) (L g) in
@@ -108,6 +108,35 @@ close-sum {p} {q} {m} {n} {f} {g} h k =
     (record {
       above = sum-one-sided m n 0 0 (U f) (D f) (L f) (U g) (D g) (L g) (U p) (D p) (L p) (U q) (D q) (L q) (U (sum f g)) (D (sum f g)) (U (sum p q)) (D (sum p q)) (apart h .above) (apart k .above) s t;
       below = sum-one-sided 0 0 m n (D f) (U f) (L f) (D g) (U g) (L g) (U p) (D p) (L p) (U q) (D q) (L q) (D (sum f g)) (U (sum f g)) (U (sum p q)) (D (sum p q)) (apart h .below) (apart k .below) (omega arith) t;
+    })
+
+-- d for m - n, on either side
+module _ (d n m Uf Df Lf Up Dp Lp : ℕ) (e : d + n ≡ m) where
+  left-over : OneSided (m + 0) (0 + n) Uf Df Lf Up Dp Lp → OneSided d 0 Uf Df Lf Up Dp Lp
+  left-over h = omega (arith, ap (λ k. k * (Lf * Lp)) e)
+
+  right-over : OneSided (0 + n) (m + 0) Uf Df Lf Up Dp Lp → OneSided 0 d Uf Df Lf Up Dp Lp
+  right-over h = omega (arith, ap (λ k. k * (Lf * Lp)) e)
+
+turned : {p : Fraction} {n : ℕ} {f : Fraction} → Close p n f → OneSided 0 n (U (opposite f)) (D (opposite f)) (L f) (U p) (D p) (L p) × OneSided n 0 (D (opposite f)) (U (opposite f)) (L f) (U p) (D p) (L p)
+unfolding opposite
+turned {p} {n} {f} h =
+    let e₁ = ap (λ x. x * L p) (up-of-minus (f .upper)) in
+    let e₂ = ap (λ x. x * L p) (down-of-minus (f .upper)) in
+    (omega (arith, apart h .below), omega (arith, apart h .above))
+
+-- the rounded run takes no larger number from a smaller one
+pub close-difference : {p q : Fraction} {m n : ℕ} {f g : Fraction} → n ≤ m → Close p m f → Close q n g → Close (sum p q) (m - n) (difference f g)
+unfolding difference sum opposite
+close-difference {p} {q} {m} {n} {f} {g} h k l =
+    let o = opposite g in
+    let e : m - n + n ≡ m = sub-add-cancel h in
+    let s = upper-of-sum f o in
+    let t = upper-of-sum p q in
+    close
+    (record {
+      above = left-over (m - n) n m (U (sum f o)) (D (sum f o)) (L f * L g) (U (sum p q)) (D (sum p q)) (L p * L q) e (sum-one-sided m 0 0 n (U f) (D f) (L f) (U o) (D o) (L g) (U p) (D p) (L p) (U q) (D q) (L q) (U (sum f o)) (D (sum f o)) (U (sum p q)) (D (sum p q)) (apart k .above) (turned l .0) s t);
+      below = right-over (m - n) n m (D (sum f o)) (U (sum f o)) (L f * L g) (U (sum p q)) (D (sum p q)) (L p * L q) e (sum-one-sided 0 n m 0 (D f) (U f) (L f) (D o) (U o) (L g) (U p) (D p) (L p) (U q) (D q) (L q) (D (sum f o)) (U (sum f o)) (U (sum p q)) (D (sum p q)) (apart k .below) (turned l .1) (omega arith) t);
     })
 
 pub close-multiple : (k : ℕ) {p : Fraction} {n : ℕ} {f : Fraction} → Close p n f → Close (multiple k p) (k * n) (multiple k f)

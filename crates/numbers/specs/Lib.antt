@@ -1,3 +1,4 @@
 pub mod Near
 pub mod Fraction
 pub mod Arithmetic
+pub mod Scan

@@ -2,4 +2,5 @@ pub mod Views
 pub mod Alone
 pub mod Refusing
 pub mod Tests
+pub mod Gaps
 mod Examples

@@ -2,3 +2,4 @@ pub mod Units
 pub mod Segments
 pub mod Causes
 pub mod Lists
+pub mod Agreement

@@ -1,0 +1,10 @@
+pub mod Sentences
+pub mod Accepting
+mod Examples
+mod Bytes
+mod Tests
+mod Stores
+mod Entered
+mod Soundness
+mod Walk
+mod WritingWalk

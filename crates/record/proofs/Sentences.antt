@@ -1,0 +1,45 @@
+-- READ THIS FIRST. Document 01's sentences on reading, entry by entry, of the definition in specs/Reading.antt, which
+-- passes over a body byte by byte. Between them they say what any bytes come to.
+-- Assumes nothing.
+use Prim.Native.Nat.{ℕ, zero, suc, _+_}
+use mathlib.Core.Path.{_≡_, refl}
+use mathlib.Core.Bool.{Bool, true, false}
+use mathlib.Core.List.{List, [], _∷_, _++_}
+use mathlib.Core.Option.{none, some}
+use lib.ListN.{length, drop}
+use Rattle.series.specs.Causes.{firstCause, accepted, refused}
+use Rattle.record.specs.Entries.{Entry, entryOf, isEnd, bodyLength, statedDays, entryCauses}
+use Rattle.record.specs.Reading.{mapOutcome, entryThen, daysFrom}
+
+-- reading behind a body is reading the bytes behind it
+pub pass-over : (first : Bool) (n room over : ℕ) (bytes : List ℕ) → daysFrom first n room over bytes ≡ daysFrom first n room 0 (drop over bytes)
+unfolding daysFrom
+pass-over first n room zero bytes = refl
+pass-over first n room (suc over) [] = refl
+pass-over first n room (suc over) (b ∷ bs) = pass-over first n room over bs
+
+module _ (first : Bool) (n room : ℕ) where
+  -- no bytes, or bytes that stop before an end entry: 1
+  pub no-entry : daysFrom first n room 0 [] ≡ refused 1
+  unfolding daysFrom
+  no-entry = refl
+
+  module _ (b : ℕ) (bs : List ℕ) where
+    abbrev e : Entry
+    e = entryOf b bs
+
+    -- an entry with a cause: refused with the number of the first that holds
+    pub refused-entry : {r : ℕ} → firstCause (entryCauses first n room e) ≡ some r → daysFrom first n room 0 (b ∷ bs) ≡ refused r
+    unfolding daysFrom entryThen
+    refused-entry h = rw h
+
+    -- an end entry with no cause: accepted, with no more days
+    pub end-entry : firstCause (entryCauses first n room e) ≡ none → isEnd (e .kind) ≡ true → daysFrom first n room 0 (b ∷ bs) ≡ accepted []
+    unfolding daysFrom entryThen
+    end-entry h k = rw (h, k)
+
+    -- any other entry with no cause: its days, and what the bytes behind it come to
+    pub other-entry : firstCause (entryCauses first n room e) ≡ none → isEnd (e .kind) ≡ false
+        → daysFrom first n room 0 (b ∷ bs) ≡ mapOutcome (λ ds. statedDays e ++ ds) (daysFrom false (n + length (statedDays e)) room 0 (e .behind))
+    unfolding daysFrom entryThen
+    other-entry h k = rw (h, k, pass-over false (n + length (statedDays e)) room (bodyLength (e .kind)) bs)

@@ -1,0 +1,35 @@
+-- `record::entry::Kind::of` meets its contract.
+-- Assumes nothing.
+use borrow.Author.Tests.{ne-eqb}
+use Rattle.record.specs.Entries.{kindOf}
+use Rattle.record.proofs.entry.Kind.of.Statement.{statement}
+use Rattle.record.proofs.entry.Kind.of.Tie as tie
+
+returns : tie.Need-returns
+unfolding kindOf
+returns c = rw (c .match .keys1)
+
+returns-2 : tie.Need-returns-2
+unfolding kindOf
+returns-2 c = rw (c .match .keys2)
+
+returns-3 : tie.Need-returns-3
+unfolding kindOf
+returns-3 c = rw (c .match .keys3)
+
+returns-4 : tie.Need-returns-4
+unfolding kindOf
+returns-4 c = rw (c .match .keys4)
+
+returns-5 : tie.Need-returns-5
+unfolding kindOf
+returns-5 c = rw (c .match .keys5)
+
+returns-6 : tie.Need-returns-6
+unfolding kindOf
+returns-6 c =
+    let r = c .match .rest in
+    simp (ne-eqb _ 1 (r .0 .0 .0 .0 .1), ne-eqb _ 2 (r .0 .0 .0 .1), ne-eqb _ 3 (r .0 .0 .1), ne-eqb _ 4 (r .0 .1), ne-eqb _ 9 (r .1))
+
+pub of-spec : {M : Type 1} → statement M
+of-spec = tie.close (tie.spec returns returns-2 returns-3 returns-4 returns-5 returns-6)

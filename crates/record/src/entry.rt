@@ -1,0 +1,178 @@
+// The entries of a record: one byte of kind, then its body. Numbers are joined directly from the caller's bytes.
+use series::FLOW_LIMIT;
+ghost use mathlib.Core.Path.{_≡_};
+ghost use Prim.Native.Nat.{_+_, _≤_, _<_};
+ghost use lib.ListN.{length, take, drop};
+ghost use Rattle.record.specs.Entries.{number, kindOf, isUnknown, isHead, isEnd, bodyLength, outside, outOfRange, daysOf};
+
+// The largest first day, as days since 1 January 1900.
+const FIRST_DAY_LIMIT: u32 = 99_999;
+// The most missing days of one entry.
+const GAP_LIMIT: u32 = 65_535;
+
+// The kinds of entry, in document 01's order.
+pub(crate) enum Kind {
+    // 01: the first day
+    Head,
+    // 02: one day's flow
+    Flow,
+    // 03: one missing day
+    MissingDay,
+    // 04: a number of missing days
+    MissingDays,
+    // 09: the number of days
+    End,
+    // any other byte
+    Unknown,
+}
+
+impl Kind {
+    // The kind that a byte names.
+    pub(crate) fn of(byte: u8) -> Kind
+        ensures { λ r. ⌜ r ≡ kindOf byte ⌝ }
+    {
+        match byte {
+            1 => Kind::Head,
+            2 => Kind::Flow,
+            3 => Kind::MissingDay,
+            4 => Kind::MissingDays,
+            9 => Kind::End,
+            _ => Kind::Unknown,
+        }
+    }
+
+    pub(crate) fn is_unknown(self) -> bool
+        ensures { λ r. ⌜ r ≡ isUnknown self ⌝ }
+    {
+        match self {
+            Kind::Head => false,
+            Kind::Flow => false,
+            Kind::MissingDay => false,
+            Kind::MissingDays => false,
+            Kind::End => false,
+            Kind::Unknown => true,
+        }
+    }
+
+    pub(crate) fn is_head(self) -> bool
+        ensures { λ r. ⌜ r ≡ isHead self ⌝ }
+    {
+        match self {
+            Kind::Head => true,
+            Kind::Flow => false,
+            Kind::MissingDay => false,
+            Kind::MissingDays => false,
+            Kind::End => false,
+            Kind::Unknown => false,
+        }
+    }
+
+    pub(crate) fn is_end(self) -> bool
+        ensures { λ r. ⌜ r ≡ isEnd self ⌝ }
+    {
+        match self {
+            Kind::Head => false,
+            Kind::Flow => false,
+            Kind::MissingDay => false,
+            Kind::MissingDays => false,
+            Kind::End => true,
+            Kind::Unknown => false,
+        }
+    }
+
+    // How many bytes its body has.
+    pub(crate) fn body_length(self) -> usize
+        ensures { λ r. ⌜ (r ≡ bodyLength self) × (r ≤ 4) ⌝ }
+    {
+        match self {
+            Kind::Head => 4,
+            Kind::Flow => 4,
+            Kind::MissingDay => 0,
+            Kind::MissingDays => 2,
+            Kind::End => 4,
+            Kind::Unknown => 0,
+        }
+    }
+
+    // The value of its body is outside its range: first day, flow, count of missing days.
+    pub(crate) fn is_out_of_range(self, value: u32) -> bool
+        ensures { λ r. ⌜ r ≡ outOfRange self value ⌝ }
+    {
+        match self {
+            Kind::Head => is_outside(value, 0, FIRST_DAY_LIMIT),
+            Kind::Flow => is_outside(value, 0, FLOW_LIMIT),
+            Kind::MissingDay => false,
+            Kind::MissingDays => is_outside(value, 1, GAP_LIMIT),
+            Kind::End => false,
+            Kind::Unknown => false,
+        }
+    }
+
+    // How many days it states, by the value of its body.
+    pub(crate) fn day_count(self, value: u32) -> usize
+        ensures { λ r. ⌜ r ≡ length (daysOf self value) ⌝ }
+    {
+        match self {
+            Kind::Head => 0,
+            Kind::Flow => 1,
+            Kind::MissingDay => 1,
+            Kind::MissingDays => value as usize,
+            Kind::End => 0,
+            Kind::Unknown => 0,
+        }
+    }
+}
+
+// The value does not lie from low to high.
+fn is_outside(value: u32, low: u32, high: u32) -> bool
+    ensures { λ r. ⌜ r ≡ outside low high value ⌝ }
+{
+    if value < low {
+        return true;
+    }
+    high < value
+}
+
+// A byte as a number.
+fn wide(byte: u8) -> u32
+    ensures { λ r. ⌜ (r ≡ byte) × (r < 256) ⌝ }
+{
+    byte as u32
+}
+
+// The number of the two bytes at `at`, low byte first.
+fn two_bytes(bytes: &[u8], at: usize) -> u32
+    requires { ⌜ at + 2 ≤ length (now bytes) ⌝ }
+    ensures { λ r. ⌜ r ≡ number (take 2 (drop at (now (bytes .entry)))) ⌝ }
+{
+    let low = wide(bytes[at]);
+    let high = wide(bytes[at + 1]);
+    low + 256 * high
+}
+
+// The number of the four bytes at `at`, low byte first.
+pub(crate) fn four_bytes(bytes: &[u8], at: usize) -> u32
+    requires { ⌜ at + 4 ≤ length (now bytes) ⌝ }
+    ensures { λ r. ⌜ r ≡ number (take 4 (drop at (now (bytes .entry)))) ⌝ }
+{
+    let a = wide(bytes[at]);
+    let b = wide(bytes[at + 1]);
+    let c = wide(bytes[at + 2]);
+    let d = wide(bytes[at + 3]);
+    a + 256 * b + 65_536 * c + 16_777_216 * d
+}
+
+// The number of a body that starts at `at`, by its kind.
+pub(crate) fn value_at(bytes: &[u8], at: usize, kind: Kind) -> u32
+    requires { ⌜ at + bodyLength kind ≤ length (now bytes) ⌝ }
+    ensures { λ r. ⌜ r ≡ number (take (bodyLength kind) (drop at (now (bytes .entry)))) ⌝ }
+{
+    match kind {
+        Kind::Head => four_bytes(bytes, at),
+        Kind::Flow => four_bytes(bytes, at),
+        Kind::MissingDay => 0,
+        Kind::MissingDays => two_bytes(bytes, at),
+        Kind::End => four_bytes(bytes, at),
+        Kind::Unknown => 0,
+    }
+}
