@@ -1,0 +1,45 @@
+-- `filter::method::smoothed` meets its contract.
+-- Assumes nothing.
+use native.Mathlib.Omega.{arith}
+use borrow.Author.Needs.{needs}
+use Rattle.filter.proofs.Numbered.{step-capped, step-mean, product-small}
+use Rattle.filter.specs.Ranges.{weightsOf}
+use Rattle.filter.proofs.method.smoothed.Statement.{statement}
+use Rattle.filter.proofs.method.smoothed.Tie as tie
+
+mul-near : tie.Need-mul-near
+mul-near c = omega (arith, product-small (c .before .pre .0 .a) (c .before .pre .1 .0))
+
+mul-near-2 : tie.Need-mul-near-2
+mul-near-2 c = omega (arith, product-small (c .before .before .pre .0 .b) (c .before .before .pre .1 .1))
+
+add-near : tie.Need-add-near
+add-near c =
+    let h = c .before .before .pre in
+    omega (arith, product-small (h .0 .a) (h .1 .0), product-small (h .0 .b) (h .1 .1))
+
+mul-near-3 : tie.Need-mul-near-3
+mul-near-3 c = omega (arith, product-small (c .before .before .before .pre .0 .c) (c .before .before .before .pre .1 .2))
+
+add-near-2 : tie.Need-add-near-2
+add-near-2 c =
+    let h = c .before .before .before .pre in
+    omega (arith, product-small (h .0 .a) (h .1 .0), product-small (h .0 .b) (h .1 .1), product-small (h .0 .c) (h .1 .2))
+
+near-requires : tie.Need-near-requires
+near-requires c κs = search needs
+
+returns : tie.Need-returns
+returns c =
+    let a = c .before .before .before .before .before .args in
+    step-capped (weightsOf (a .w)) (a .f) (a .u) (a .v) (c .before .near .ensures) (c .if1 .taken)
+
+returns-2 : tie.Need-returns-2
+returns-2 c =
+    let a = c .before .before .before .before .before .args in
+    step-mean (weightsOf (a .w)) (a .f) (a .u) (a .v) (c .before .near .ensures) (c .if1 .left)
+
+pub smoothed-spec : {M : Type 1} → statement M
+smoothed-spec =
+    tie.close
+    (tie.spec mul-near mul-near-2 add-near mul-near-3 add-near-2 near-requires returns returns-2)

@@ -1,0 +1,152 @@
+// The six methods: document 01's table of coefficients, ranges and starts.
+use crate::Setting;
+ghost use mathlib.Core.Path.{_≡_};
+ghost use mathlib.Core.Bool.{_&&_};
+ghost use lib.Dec.{eqb};
+ghost use Prim.Native.Nat.{_≤_};
+ghost use Rattle.numbers.specs.Arithmetic.{rounded};
+ghost use Rattle.filter.specs.Methods.{between, unknownMethod, outOfRange, invalidPasses};
+ghost use Rattle.filter.specs.Passes.{step, settingWeights, firstDay};
+ghost use Rattle.filter.specs.Ranges.{weightsOf, Usable, Moderate, Small};
+
+// The A, B, C and d of a setting.
+pub struct Coefficients {
+    pub a: u64,
+    pub b: u64,
+    pub c: u64,
+    pub d: u64,
+}
+
+fn within(low: u32, high: u32, n: u32) -> bool
+    ensures { λ r. ⌜ r ≡ between low high n ⌝ }
+{
+    if low <= n {
+        return n <= high;
+    }
+    false
+}
+
+// 11: the method is not 1 to 6.
+pub fn unknown_method(setting: Setting) -> bool
+    ensures { λ r. ⌜ r ≡ unknownMethod setting ⌝ }
+{
+    !within(1, 6, setting.method)
+}
+
+// The range of a method with one parameter: p from `low` on, and q 0.
+fn one_parameter(low: u32, p: u32, q: u32) -> bool
+    ensures { λ r. ⌜ r ≡ (between low 9999 p && eqb q 0) ⌝ }
+{
+    if within(low, 9999, p) {
+        return q == 0;
+    }
+    false
+}
+
+// The range of a method with two parameters: q up to `high`.
+fn two_parameters(high: u32, p: u32, q: u32) -> bool
+    ensures { λ r. ⌜ r ≡ (between 1 9999 p && between 1 high q) ⌝ }
+{
+    if within(1, 9999, p) {
+        return within(1, high, q);
+    }
+    false
+}
+
+// 12: p or q lies outside its range.
+pub fn out_of_range(setting: Setting) -> bool
+    ensures { λ r. ⌜ r ≡ outOfRange setting ⌝ }
+{
+    let method = setting.method;
+    match method {
+        2 => !one_parameter(3334, setting.p, setting.q),
+        4 => !two_parameters(10_000, setting.p, setting.q),
+        5 => !two_parameters(9999, setting.p, setting.q),
+        _ => !one_parameter(1, setting.p, setting.q),
+    }
+}
+
+// 13: the passes are not 1 to 3, or over 1 outside method 1.
+pub fn invalid_passes(setting: Setting, passes: u32) -> bool
+    ensures { λ r. ⌜ r ≡ invalidPasses setting passes ⌝ }
+{
+    if !within(1, 3, passes) {
+        return true;
+    }
+    if 1 < passes {
+        return setting.method != 1;
+    }
+    false
+}
+
+// A setting's row of the table.
+pub fn table_row(setting: Setting) -> Coefficients
+    requires { ⌜ Usable setting ⌝ }
+    ensures { λ r. ⌜ weightsOf r ≡ settingWeights setting ⌝ }
+    ensures { λ r. ⌜ Moderate (weightsOf r) ⌝ }
+{
+    let p = setting.p as u64;
+    let q = setting.q as u64;
+    let method = setting.method;
+    match method {
+        1 => Coefficients {
+            a: 2 * p,
+            b: 10_000 - p,
+            c: 10_000 - p,
+            d: 20_000,
+        },
+        2 => Coefficients {
+            a: 3 * p - 10_000,
+            b: 10_000 - p,
+            c: 10_000 - p,
+            d: 30_000 - p,
+        },
+        3 => Coefficients {
+            a: p,
+            b: 10_000 - p,
+            c: 0,
+            d: 20_000 - p,
+        },
+        4 => Coefficients {
+            a: p,
+            b: q,
+            c: 0,
+            d: 10_000 + q,
+        },
+        5 => Coefficients {
+            a: p * (10_000 - q),
+            b: (10_000 - p) * q,
+            c: 0,
+            d: 100_000_000 - p * q,
+        },
+        _ => Coefficients {
+            a: p,
+            b: 10_000 - p,
+            c: 0,
+            d: 10_000,
+        },
+    }
+}
+
+// The base value of a segment's first day in pass 1.
+pub fn first_day(setting: Setting, flow: u64) -> u64
+    requires { ⌜ (Usable setting × (flow ≤ 10000000)) ⌝ }
+    ensures { λ r. ⌜ r ≡ firstDay rounded setting flow ⌝ }
+{
+    let method = setting.method;
+    if method == 5 {
+        numbers::near(9 * (setting.q as u64) * flow, 100)
+    } else {
+        500 * flow
+    }
+}
+
+// f(t), from f = f(t-1), u = u(t) and v = u(t-1).
+pub fn smoothed(w: Coefficients, f: u64, u: u64, v: u64) -> u64
+    requires { ⌜ Moderate (weightsOf w) ⌝ }
+    requires { ⌜ (Small f × Small u × Small v) ⌝ }
+    ensures { λ r. ⌜ r ≡ step rounded (weightsOf w) f u v ⌝ }
+{
+    let rounded = numbers::near(w.a * f + w.b * u + w.c * v, w.d);
+    if u < rounded { u } else { rounded }
+}
