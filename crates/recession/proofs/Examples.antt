@@ -1,0 +1,81 @@
+-- Rivers computed by the checker: document 01's (◆), and one for each edge of its rules.
+-- Assumes nothing.
+use Prim.Native.Nat.{ℕ}
+use mathlib.Core.Path.{_≡_, refl}
+use mathlib.Core.List.{List, [], _∷_, map}
+use Rattle.numbers.specs.Near.{near}
+use Rattle.series.specs.Units.{missingMark, isInvalidDay, dayOf}
+use Rattle.series.specs.Lists.{tooLong, anyInvalidDay}
+use Rattle.series.specs.Causes.{Outcome, accepted, refused}
+use Rattle.recession.specs.Limbs.{continues, fall, runsFrom, selected, hasAtLeast, limbs, counted}
+use Rattle.recession.specs.Ratios.{pairRatios, limbRatios, insertRising, rising, atRank, median}
+use Rattle.recession.specs.Call.{limbDaysOutOfRange, noRatio, limbListTooShort, countedLimbs, countedRatios, ratioCauses, Statistics, ratioOutcome, Entry, entryOf}
+
+-- a river: L, the days, the limb list; the answer, and the counted limbs
+record River : Type 0 where
+  L : ℕ
+  days : List ℕ
+  list : List ℕ
+  answer : Outcome Statistics
+  listed : List Entry
+
+abbrev values : ℕ → ℕ → Outcome Statistics
+values k r = accepted (record { count = k; median = r })
+
+abbrev entry : ℕ → ℕ → Entry
+entry start days = record { start = start; days = days }
+
+-- room for two limbs
+abbrev room : List ℕ
+room = 7 ∷ 7 ∷ 7 ∷ 7 ∷ []
+
+abbrev gap : ℕ
+gap = missingMark
+
+abbrev rivers : List River
+rivers =
+    -- ◆ a fall of three days at L 3 and at L 4
+    record { L = 3; days = 100 ∷ 90 ∷ 81 ∷ []; list = room; answer = values 2 9000; listed = entry 0 3 ∷ [] }
+    ∷ record { L = 4; days = 100 ∷ 90 ∷ 81 ∷ []; list = room; answer = refused 19; listed = [] }
+    -- ◆ k even: the lower of the two in the middle
+    ∷ record { L = 3; days = 100 ∷ 50 ∷ 40 ∷ []; list = room; answer = values 2 5000; listed = entry 0 3 ∷ [] }
+    -- k odd, and the ratios in no order
+    ∷ record { L = 2; days = 100 ∷ 90 ∷ 45 ∷ 36 ∷ []; list = room; answer = values 3 8000; listed = entry 0 4 ∷ [] }
+    ∷ record { L = 2; days = 100 ∷ 90 ∷ 45 ∷ 36 ∷ 9 ∷ []; list = room; answer = values 4 5000; listed = entry 0 5 ∷ [] }
+    -- equal neighbours part a fall
+    ∷ record { L = 2; days = 100 ∷ 90 ∷ 90 ∷ 81 ∷ []; list = room; answer = values 2 9000; listed = entry 0 2 ∷ entry 2 2 ∷ [] }
+    ∷ record { L = 2; days = 90 ∷ 90 ∷ []; list = room; answer = refused 19; listed = [] }
+    -- a gap parts it too, and no limb crosses one
+    ∷ record { L = 2; days = 100 ∷ 90 ∷ gap ∷ 80 ∷ 40 ∷ []; list = room; answer = values 2 5000; listed = entry 0 2 ∷ entry 3 2 ∷ [] }
+    ∷ record { L = 2; days = 100 ∷ gap ∷ 80 ∷ []; list = room; answer = refused 19; listed = [] }
+    -- a rise ends a limb, and the last limb ends with the list
+    ∷ record { L = 3; days = 5 ∷ 100 ∷ 80 ∷ 60 ∷ 70 ∷ 30 ∷ 15 ∷ []; list = room; answer = values 4 5000; listed = entry 1 3 ∷ entry 4 3 ∷ [] }
+    -- only limbs of at least L days count
+    ∷ record { L = 3; days = 9 ∷ 1 ∷ 8 ∷ 6 ∷ 3 ∷ 5 ∷ 4 ∷ []; list = room; answer = values 2 5000; listed = entry 2 3 ∷ [] }
+    -- flow 0: the ratio is 0, and nothing falls from it
+    ∷ record { L = 2; days = 10 ∷ 0 ∷ 0 ∷ []; list = room; answer = values 1 0; listed = entry 0 2 ∷ [] }
+    -- a ratio that rounds to 10000, and one that rounds to 0
+    ∷ record { L = 2; days = 10000000 ∷ 9999999 ∷ []; list = room; answer = values 1 10000; listed = entry 0 2 ∷ [] }
+    ∷ record { L = 2; days = 10000000 ∷ 1 ∷ []; list = room; answer = values 1 0; listed = entry 0 2 ∷ [] }
+    -- no days, one day
+    ∷ record { L = 2; days = []; list = []; answer = refused 19; listed = [] }
+    ∷ record { L = 2; days = 5 ∷ []; list = []; answer = refused 19; listed = [] }
+    -- the limb list: two numbers a limb are enough, and one less is not, nor is none
+    ∷ record { L = 2; days = 2 ∷ 1 ∷ []; list = 7 ∷ 7 ∷ []; answer = values 1 5000; listed = entry 0 2 ∷ [] }
+    ∷ record { L = 2; days = 2 ∷ 1 ∷ []; list = 7 ∷ []; answer = refused 22; listed = entry 0 2 ∷ [] }
+    ∷ record { L = 2; days = 2 ∷ 1 ∷ []; list = []; answer = refused 22; listed = entry 0 2 ∷ [] }
+    -- L 2 to 60, looked at before the days
+    ∷ record { L = 1; days = 10000001 ∷ []; list = []; answer = refused 18; listed = [] }
+    ∷ record { L = 61; days = 2 ∷ 1 ∷ []; list = room; answer = refused 18; listed = [] }
+    ∷ record { L = 60; days = 2 ∷ 1 ∷ []; list = room; answer = refused 19; listed = [] }
+    -- a day neither flow nor missing, before anything is counted
+    ∷ record { L = 2; days = 2 ∷ 1 ∷ 10000001 ∷ []; list = []; answer = refused 10; listed = entry 0 2 ∷ [] }
+    ∷ []
+
+pub answers : map (λ r. ratioOutcome (r .L) (r .days) (r .list)) rivers ≡ map (λ r. r .answer) rivers
+unfolding ratioOutcome ratioCauses limbDaysOutOfRange tooLong anyInvalidDay isInvalidDay noRatio limbListTooShort countedRatios countedLimbs counted limbs selected hasAtLeast runsFrom fall continues dayOf limbRatios pairRatios near median atRank rising insertRising
+answers = refl
+
+pub limbs-listed : map (λ r. map entryOf (countedLimbs (r .L) (r .days))) rivers ≡ map (λ r. r .listed) rivers
+unfolding countedLimbs counted limbs selected hasAtLeast runsFrom fall continues dayOf
+limbs-listed = refl

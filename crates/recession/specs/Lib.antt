@@ -1,0 +1,4 @@
+pub mod Limbs
+pub mod Ratios
+pub mod Call
+pub mod Private
