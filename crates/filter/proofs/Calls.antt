@@ -7,7 +7,7 @@ use mathlib.Core.List.{List}
 use mathlib.Core.Option.{Option, none, some}
 use native.Mathlib.Omega.{arith}
 use borrow.Author.Tests.{not-false}
-use Rattle.numbers.specs.Arithmetic.{rounded, Weights}
+use Rattle.numbers.specs.Arithmetic.{Weights}
 use Rattle.series.specs.Units.{isInvalidDay, dayOf}
 use Rattle.series.specs.Causes.{firstCause, accepted, refused}
 use Rattle.series.specs.Lists.{anyInvalidDay, listCauses}

@@ -1,20 +1,19 @@
 -- The distance of the rounded run from the exact run: one law over all methods, settings, passes and lists with gaps.
 -- Assumes nothing.
-use Prim.Native.Nat.{ℕ, zero, suc, _+_, _*_, _-_, _≤_, _<_}
-use mathlib.Core.Path.{_≡_, refl, sym, _∙_, ap, subst}
-use mathlib.Core.List.{List, [], _∷_, map, reverse, reverse-reverse}
-use mathlib.Core.Option.{Option, none, some}
-use native.Mathlib.Nat.{mul-le-mul-left, mul-le-mul-right, min-le-left, le-trans}
+use Prim.Native.Nat.{ℕ, zero, suc, _+_, _*_, _-_, _≤_}
+use mathlib.Core.Path.{_≡_, _∙_, subst}
+use mathlib.Core.List.{List, [], _∷_, map, reverse-reverse}
+use mathlib.Core.Option.{Option, some}
+use native.Mathlib.Nat.{mul-le-mul-left, min-le-left, le-trans}
 use native.Mathlib.Omega.{arith}
 use Rattle.numbers.specs.Fraction.{Fraction, whole, half, sum, AtMost}
-use Rattle.numbers.specs.Arithmetic.{Arithmetic, Close, Weights, weighted, rounded, exact}
+use Rattle.numbers.specs.Arithmetic.{Close, Weights, weighted, rounded, exact}
 use Rattle.numbers.proofs.Fractions.{close-number, close-least, close-quotient, close-weaken, close-weighted}
 use Rattle.numbers.proofs.Quantities.{Reads, reads-whole, reads-half, reads-sum, reads-multiple, reads-quotient, at-most}
-use Rattle.series.specs.Segments.{overSegments}
 use Rattle.series.specs.Agreement.{Each, done, then}
 use Rattle.series.proofs.Gaps.{over-each, each-reverse}
 use Rattle.filter.specs.declared.Setting.{Setting}
-use Rattle.filter.specs.Methods.{Method, lyne-hollick, chapman-1991, chapman-maxwell, boughton, eckhardt, tularam-ilahee, methodOf, weights, start}
+use Rattle.filter.specs.Methods.{Method, lyne-hollick, chapman-1991, chapman-maxwell, boughton, eckhardt, tularam-ilahee, methodOf, start}
 use Rattle.filter.specs.Passes.{step, onward, recursive, thousandths, settingWeights, firstDay, laterDay, firstPass, forwardPass, backwardPass, passes, filtered}
 use Rattle.filter.specs.Distance.{limitOf, filterLimit, FilterDay, missing, present}
 use Rattle.filter.proofs.Table.{Limits, Row, row, start-below}
@@ -34,7 +33,7 @@ module _ (w : Weights) (r : Row w) where
   room : w .A + e ≡ w .d
   room = omega (arith, r .below)
 
-  reads-limit : (n : ℕ) → Reads (limitOf w n) (n * w .d) (2 * e)
+  pub reads-limit : (n : ℕ) → Reads (limitOf w n) (n * w .d) (2 * e)
   unfolding limitOf
   reads-limit n =
       let q = reads-quotient (2 * e) (omega (arith, r .below)) (reads-whole (n * w .d)) in

@@ -10,7 +10,7 @@ use Rattle.numbers.specs.Arithmetic.{rounded, weighted}
 use Rattle.series.specs.Segments.{overSegments}
 use Rattle.series.specs.Causes.{firstCause}
 use Rattle.series.specs.Lists.{tooLong, lengthsDiffer, anyInvalidDay}
-use Rattle.series.specs.Units.{isInvalidDay, dayOf}
+use Rattle.series.specs.Units.{isInvalidDay}
 use Rattle.filter.specs.declared.Setting.{Setting}
 use Rattle.filter.specs.Methods.{methodOf, weights, start, between, inRange, unknownMethod, outOfRange, invalidPasses}
 use Rattle.filter.specs.Passes.{step, recursive, thousandths, filtered}

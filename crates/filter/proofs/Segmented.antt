@@ -8,15 +8,15 @@ use Rattle.numbers.specs.Arithmetic.{rounded, Weights}
 use Rattle.numbers.specs.Scan.{scan}
 use Rattle.numbers.proofs.Scanning.{scan-seen}
 use Rattle.series.specs.Units.{dayOf, baseOf, baseMark}
-use Rattle.series.specs.Segments.{Parts, parts, afterGaps, overSegments}
-use Rattle.series.proofs.Gaps.{over-then, over-reverse, map-reverse}
+use Rattle.series.specs.Segments.{parts, afterGaps, overSegments}
+use Rattle.series.proofs.Gaps.{over-reverse, map-reverse}
 use Rattle.filter.specs.declared.Setting.{Setting}
 use Rattle.filter.specs.declared.DailyFilter.{DailyFilter}
 use Rattle.filter.specs.declared.Yesterday.{Yesterday}
 use Rattle.filter.specs.declared.Yesterday.the-variants.{Unknown, Known}
 use Rattle.filter.specs.declared.pass.Previous.{Previous}
 use Rattle.filter.specs.declared.pass.Previous.the-variants.{Nothing, Day}
-use Rattle.filter.specs.Passes.{step, onward, recursive, firstDay, laterDay, firstPass, forwardPass, backwardPass, passes, filtered}
+use Rattle.filter.specs.Passes.{step, onward, recursive, firstDay, laterDay, firstPass, filtered}
 use Rattle.filter.specs.Daily.{fresh, valueOn, stateAfter, dayBase}
 use Rattle.filter.specs.Runs.{dayState, dayMark, firstRun, output, previousAfter, outputOn, passState, passMark, forwardRun, backwardRun}
 

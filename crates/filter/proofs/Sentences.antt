@@ -5,7 +5,7 @@
 --   the rounded run lies within n × d / (2 × (d - A)) of the exact run (`distance`).
 -- Assumes nothing.
 use Prim.Native.Nat.{ℕ, zero, suc, _*_, _≤_}
-use mathlib.Core.Path.{_≡_, refl, sym, _∙_, ap, ap₂, subst}
+use mathlib.Core.Path.{_≡_, refl, _∙_, ap, subst}
 use mathlib.Core.Bool.{false}
 use mathlib.Core.List.{List, [], _∷_, map, reverse}
 use mathlib.Core.Logic.{⊎-elim}
@@ -28,7 +28,7 @@ use Rattle.filter.specs.declared.Yesterday.{Yesterday}
 use Rattle.filter.specs.declared.Yesterday.the-variants.{Unknown, Known}
 use Rattle.filter.specs.Methods.{invalidPasses}
 use Rattle.filter.specs.Passes.{onward, recursive, thousandths, settingWeights, firstPass, forwardPass, backwardPass, passes, filtered}
-use Rattle.filter.specs.Daily.{fresh, invalidYesterday, dayBase, valueOn, stateAfter, stepRule, stepsFrom}
+use Rattle.filter.specs.Daily.{fresh, invalidYesterday, dayBase, valueOn, stateAfter, stepsFrom}
 use Rattle.filter.specs.Distance.{FilterDay, filterLimit}
 use Rattle.filter.specs.Ranges.{Usable}
 use Rattle.filter.proofs.Table.{usable-limits}

@@ -2,7 +2,7 @@
 use Prim.Native.Nat.{ℕ, _*_, _-_, _≤_}
 use mathlib.Core.Option.{Option, none, some}
 use Rattle.numbers.specs.Fraction.{Fraction, whole, quotient}
-use Rattle.numbers.specs.Arithmetic.{Close, Weights, rounded}
+use Rattle.numbers.specs.Arithmetic.{Close, Weights}
 use Rattle.filter.specs.declared.Setting.{Setting}
 use Rattle.filter.specs.Passes.{settingWeights}
 

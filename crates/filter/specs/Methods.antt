@@ -1,6 +1,6 @@
 -- The six filters (document 01, "Filters"): a row of the table for each method.
 use Prim.Native.Nat.{ℕ, _+_, _*_, _-_}
-use mathlib.Core.Bool.{Bool, true, false, cond, not, _&&_, _||_}
+use mathlib.Core.Bool.{Bool, cond, not, _&&_, _||_}
 use lib.Dec.{leb, ltb, eqb}
 use Rattle.numbers.specs.Arithmetic.{Arithmetic, Weights}
 use Rattle.filter.specs.declared.Setting.{Setting}

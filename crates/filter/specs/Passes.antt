@@ -6,7 +6,7 @@ use mathlib.Core.Option.{Option, some}
 use Rattle.numbers.specs.Arithmetic.{Arithmetic, Weights, weighted}
 use Rattle.series.specs.Segments.{overSegments}
 use Rattle.filter.specs.declared.Setting.{Setting}
-use Rattle.filter.specs.Methods.{Method, methodOf, weights, start}
+use Rattle.filter.specs.Methods.{methodOf, weights, start}
 
 -- f(t) = the smaller of u(t) and near((A × f(t-1) + B × u(t) + C × u(t-1)) / d), with f = f(t-1), u = u(t), v = u(t-1)
 unfoldable pub step : (S : Arithmetic) → Weights → S .Number → S .Number → S .Number → S .Number

@@ -9,7 +9,6 @@ use series::Refusal;
 ghost use mathlib.Core.Path.{_≡_};
 ghost use mathlib.Core.Bool.{false};
 ghost use Prim.Native.Nat.{_*_, _≤_};
-ghost use Rattle.numbers.specs.Arithmetic.{rounded};
 ghost use Rattle.series.specs.Units.{isInvalidDay};
 ghost use Rattle.filter.specs.Passes.{settingWeights};
 ghost use Rattle.filter.specs.Daily.{fresh, invalidYesterday, dayBase, stepRule, stepOf};

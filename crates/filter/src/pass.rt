@@ -8,7 +8,6 @@ ghost use mathlib.Core.Path.{_≡_};
 ghost use mathlib.Core.Bool.{false};
 ghost use Prim.Native.Nat.{_≤_};
 ghost use lib.ListN.{length};
-ghost use Rattle.numbers.specs.Arithmetic.{rounded};
 ghost use Rattle.series.specs.Lists.{anyInvalidDay};
 ghost use Rattle.filter.specs.Methods.{invalidPasses};
 ghost use Rattle.filter.specs.Filtering.{filteredList};

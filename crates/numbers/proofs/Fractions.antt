@@ -13,7 +13,7 @@ use lib.IntN.{pos, _*ℤ_}
 use lib.Signed.{leZ, leZ-yes}
 use lib.Dec.{T}
 use Rattle.numbers.specs.Near.{near}
-use Rattle.numbers.specs.Fraction.{Fraction, whole, half, sum, opposite, difference, multiple, quotient, least, AtMost, Within}
+use Rattle.numbers.specs.Fraction.{Fraction, whole, half, sum, opposite, difference, multiple, quotient, least, AtMost}
 use Rattle.numbers.specs.Arithmetic.{Close, Weights, weighted, rounded, exact}
 use Rattle.numbers.proofs.Rounding.{near-error}
 use Rattle.numbers.proofs.Whole.{up, down, up-of-minus, down-of-minus, order, otherwise, of-sum, up-of-multiple, down-of-multiple}

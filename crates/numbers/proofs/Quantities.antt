@@ -1,13 +1,10 @@
 -- Fractions that are not below zero, by the two natural numbers that they are made of.
 -- Assumes nothing.
 use Prim.Native.Nat.{ℕ, zero, suc, _+_, _*_, _≤_, _<_}
-use mathlib.Core.Path.{_≡_, refl, ap, ap₂, _∙_}
+use mathlib.Core.Path.{_≡_, refl, ap, ap₂}
 use native.Mathlib.Omega.{arith}
-use native.Mathlib.Nat.{one-mul}
 use lib.IntN.{ℤ, pos, _+ℤ_, _*ℤ_}
-use lib.Signed.{_≤ℤ_}
 use Rattle.numbers.specs.Fraction.{Fraction, whole, half, sum, multiple, quotient, AtMost}
-use Rattle.numbers.proofs.Whole.{up, down}
 use Rattle.numbers.proofs.Fractions.{in-naturals}
 
 -- f is a / l

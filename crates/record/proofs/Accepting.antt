@@ -1,17 +1,14 @@
 -- What a caller of `read` may use: what holds of every accepted record, what an answer says of the record, and how the
 -- day list stands afterwards.
 -- Assumes nothing.
-use Prim.Native.Nat.{ℕ, zero, suc, _≤_, _<_}
+use Prim.Native.Nat.{ℕ, _≤_}
 use mathlib.Core.Path.{_≡_, refl, sym, ap}
-use mathlib.Core.Logic.{_⊎_, inl, inr}
-use mathlib.Core.Bool.{Bool, true, false, true≢false}
-use mathlib.Core.List.{List, [], _∷_}
+use mathlib.Core.Bool.{true, false, true≢false}
+use mathlib.Core.List.{List}
 use native.Mathlib.Omega.{arith}
-use borrow.Author.Tests.{leb-true, eqb-true, not-false}
-use lib.ListN.{length, getD, take, drop, length-append, length-drop}
+use lib.ListN.{length, take, drop, length-append, length-drop}
 use lib.Seq.{take-append-seam, drop-append-seam}
-use lib.Dec.{leb, eqb}
-use Rattle.series.specs.Units.{dayLimit, flowLimit, missingMark, isInvalidDay}
+use Rattle.series.specs.Units.{dayLimit}
 use Rattle.series.specs.Causes.{Outcome, accepted, refused}
 use Rattle.series.specs.Lists.{anyInvalidDay}
 use Rattle.record.specs.Entries.{firstDayLimit}
@@ -19,7 +16,7 @@ use Rattle.record.specs.Reading.{Stated, reading}
 use Rattle.record.specs.Reply.{Reply, replyOf, listAfter}
 use Rattle.record.specs.Steps.{isAccepted}
 use Rattle.record.proofs.Entered.{not-both}
-use Rattle.record.proofs.Soundness.{neither, sound, head-in-range, from-all}
+use Rattle.record.proofs.Soundness.{sound, head-in-range, from-all}
 
 -- every accepted record
 pub record AcceptedRecord (room : ℕ) (s : Stated) : Type 0 where
@@ -33,21 +30,6 @@ accepted-record room bytes h =
     let f = from-all room bytes h in
     let d = sound true 0 room 0 bytes (f .0) in
     record { within-limit = omega (arith, d .total); within-room = omega (arith, d .fits); valid = d .valid; first-day = omega (arith, f .1, head-in-range room bytes (f .0)) }
-
--- each day of a list without invalid days is a flow or missing
-pub each-valid : (days : List ℕ) → anyInvalidDay days ≡ false → (t : ℕ) → t < length days → isInvalidDay (getD days t 0) ≡ false
-unfolding anyInvalidDay
-each-valid [] h t l = absurd (omega arith)
-each-valid (d ∷ ds) h zero l = neither (isInvalidDay d) (anyInvalidDay ds) h .0
-each-valid (d ∷ ds) h (suc t) l = each-valid ds (neither (isInvalidDay d) (anyInvalidDay ds) h .1) t (omega arith)
-
-pub flow-or-missing : (d : ℕ) → isInvalidDay d ≡ false → (d ≤ flowLimit) ⊎ (d ≡ missingMark)
-unfolding isInvalidDay
-flow-or-missing d h = by-test (leb d flowLimit) refl
-  where
-    by-test : (t : Bool) → leb d flowLimit ≡ t → (d ≤ flowLimit) ⊎ (d ≡ missingMark)
-    by-test true e = inl (leb-true d flowLimit e)
-    by-test false e = inr (eqb-true d missingMark (not-false (eqb d missingMark) (rw e at h)))
 
 -- an answer with values: the record states them
 pub record Answered (room : ℕ) (bytes : List ℕ) (firstDay dayCount : ℕ) : Type 0 where

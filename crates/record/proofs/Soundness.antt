@@ -3,7 +3,7 @@
 -- Assumes nothing.
 use Prim.Native.Nat.{ℕ, zero, suc, _+_, _≤_}
 use mathlib.Core.Path.{_≡_, refl, sym, _∙_, ap}
-use mathlib.Core.Bool.{Bool, true, false, _||_, true≢false, or-assoc}
+use mathlib.Core.Bool.{Bool, true, false, _||_, or-assoc}
 use mathlib.Core.List.{List, [], _∷_, _++_}
 use native.Mathlib.Omega.{arith}
 use borrow.Author.Tests.{le-leb, ltb-false}
@@ -12,15 +12,12 @@ use lib.Dec.{ltb}
 use Rattle.series.specs.Units.{dayLimit, flowLimit, missingMark, isInvalidDay}
 use Rattle.series.specs.Causes.{Outcome, accepted, refused}
 use Rattle.series.specs.Lists.{anyInvalidDay}
+use Rattle.series.proofs.Views.{neither-of}
 use Rattle.record.specs.declared.entry.Kind.{Kind}
 use Rattle.record.specs.declared.entry.Kind.the-variants.{Head, Flow, MissingDay, MissingDays, End, Unknown}
 use Rattle.record.specs.Entries.{firstDayLimit, Entry, entryOf, kindOf, bodyLength, outside, outOfRange, daysOf, value, statedDays}
 use Rattle.record.specs.Reading.{Stated, mapOutcome, daysFrom, firstDayOf, reading}
 use Rattle.record.proofs.Entered.{head-first, AcceptedEntry, at-end, goes-on, not-both, accepted-entry, entry-passed}
-
-pub neither : (a b : Bool) → (a || b) ≡ false → (a ≡ false) × (b ≡ false)
-neither false b h = (refl, h)
-neither true b h = absurd (true≢false h)
 
 -- the days of an entry whose value is in range are flows or missing
 any-append : (a b : List ℕ) → anyInvalidDay (a ++ b) ≡ (anyInvalidDay a || anyInvalidDay b)
@@ -39,7 +36,7 @@ valid-flow v h = simp (le-leb v flowLimit h)
 
 in-range : (high v : ℕ) → outside 0 high v ≡ false → v ≤ high
 unfolding outside
-in-range high v h = ltb-false high v (neither (ltb v 0) (ltb high v) h .1)
+in-range high v h = ltb-false high v (neither-of (ltb v 0) (ltb high v) h .1)
 
 valid-days : (k : Kind) (v : ℕ) → outOfRange k v ≡ false → anyInvalidDay (daysOf k v) ≡ false
 unfolding anyInvalidDay isInvalidDay

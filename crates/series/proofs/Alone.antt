@@ -5,12 +5,12 @@ use Prim.Native.Nat.{ℕ, zero, suc, _+_, _≤_, _<_}
 use mathlib.Core.Path.{_≡_, refl, sym, _∙_, ap, subst}
 use mathlib.Core.List.{List, [], _∷_, _++_, map, append-assoc, append-nil}
 use mathlib.Core.Option.{Option, none, some, Option·none-ne-some}
-use native.Mathlib.Nat.{add-zero, zero-add, suc-add, le-of-suc-le-suc, lt-of-not-le, suc-inj}
+use native.Mathlib.Nat.{zero-add, suc-add, lt-of-not-le, suc-inj}
 use native.Mathlib.Decide.{decLe}
 use native.Mathlib.Omega.{arith}
-use lib.ListN.{length, getD, take, drop, length-append, length-take, length-drop, length-map, take-append-drop, drop-of-length-le, List·getD-eq-default}
-use lib.Seq.{drop-cons, take-suc, split-at, take-all, take-at, drop-at, drop-drop, getD-at, length-take-le, append-snoc, getD-drop}
-use Rattle.series.specs.Segments.{Segment, Parts, parts, afterGaps, overSegments}
+use lib.ListN.{length, getD, take, drop, length-append, length-take, length-drop, length-map, take-append-drop, List·getD-eq-default}
+use lib.Seq.{split-at, take-all, take-at, drop-at, getD-at, length-take-le, append-snoc, getD-drop}
+use Rattle.series.specs.Segments.{Segment, parts, afterGaps, overSegments}
 
 module _ {A B : Type 0} (rule : List A → List (Option B)) where
   parts-some : (flows : List A) → parts (map some flows) ≡ record { first = flows; rest = [] }

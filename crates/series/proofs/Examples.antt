@@ -2,7 +2,7 @@
 -- Assumes nothing.
 use Prim.Native.Nat.{ℕ}
 use mathlib.Core.Path.{_≡_, refl}
-use mathlib.Core.Bool.{Bool, true, false}
+use mathlib.Core.Bool.{true, false}
 use mathlib.Core.List.{List, [], _∷_, map, reverse}
 use mathlib.Core.Option.{Option, none, some}
 use Rattle.series.specs.Units.{isInvalidDay, dayOf, baseOf, baseMark}

@@ -7,7 +7,7 @@ use mathlib.Core.List.{List, [], _∷_, _++_}
 use mathlib.Core.Option.{none, some, Option·some-ne-none, Option·none-ne-some, Option·some-injective}
 use lib.ListN.{length}
 use borrow.Author.Tests.{eqb-true, not-false}
-use Rattle.series.specs.Causes.{Cause, firstCause, Outcome, refused, outcome}
+use Rattle.series.specs.Causes.{Cause, firstCause, refused, outcome}
 use Rattle.series.specs.Lists.{tooLong, lengthsDiffer, anyInvalidDay, listCauses}
 
 -- nothing refused: every cause is false

@@ -1,7 +1,7 @@
 -- `numbers::near` meets its contract: the remainder says on which side of the half a / b lies.
 -- Assumes nothing.
-use Prim.Native.Nat.{ℕ, _<_}
-use mathlib.Core.Path.{_≡_, sym, ap, _∙_}
+use Prim.Native.Nat.{_<_}
+use mathlib.Core.Path.{sym, ap, _∙_}
 use native.Mathlib.Nat.{mod-lt, le-of-lt, pos-of-ne-zero}
 use native.Mathlib.Omega.{arith}
 use borrow.Author.Needs.{needs}

@@ -1,10 +1,10 @@
 -- `series::check_lists` meets its contract: the tests that were passed are false, and the one that refuses holds.
 -- Assumes nothing.
 use mathlib.Core.Path.{_≡_, sym, _∙_}
-use mathlib.Core.Bool.{true, false}
+use mathlib.Core.Bool.{false}
 use borrow.Author.Needs.{needs}
 use denote.Ref.{now}
-use Rattle.series.specs.Lists.{tooLong, lengthsDiffer, anyInvalidDay, listCauses}
+use Rattle.series.specs.Lists.{tooLong, lengthsDiffer, listCauses}
 use Rattle.series.proofs.check_lists.Statement.{statement}
 use Rattle.series.proofs.check_lists.Tie as tie
 

@@ -1,6 +1,5 @@
 -- `series::is_invalid_base` meets its contract.
 -- Assumes nothing.
-use mathlib.Core.Path.{refl}
 use borrow.Author.Needs.{needs}
 use Rattle.series.specs.Lists.{isInvalidBase}
 use Rattle.series.proofs.Views.{day-missing, day-present, base-none, base-value}

@@ -6,7 +6,7 @@ use mathlib.Core.Path.{_≡_, sym, _∙_}
 use borrow.Author.Needs.{needs}
 use Rattle.filter.proofs.Calls.{step-11, step-12, step-15, step-10, step-accepted}
 use Rattle.filter.proofs.Days.{value-shown}
-use Rattle.filter.specs.Daily.{Stepped, invalidYesterday}
+use Rattle.filter.specs.Daily.{invalidYesterday}
 use Rattle.filter.specs.Methods.{unknownMethod, outOfRange}
 use Rattle.series.specs.Causes.{accepted}
 use Rattle.series.specs.Units.{isInvalidDay, dayOf}

@@ -3,7 +3,7 @@
 use mathlib.Core.Path.{sym, _∙_}
 use borrow.Author.Needs.{needs}
 use borrow.Author.Tests.{lt-ltb, le-ltb, not-true, not-false}
-use Rattle.filter.specs.Methods.{invalidPasses, between}
+use Rattle.filter.specs.Methods.{invalidPasses}
 use Rattle.filter.proofs.method.invalid_passes.Statement.{statement}
 use Rattle.filter.proofs.method.invalid_passes.Tie as tie
 

@@ -5,7 +5,7 @@ use native.Mathlib.Omega.{arith}
 use borrow.Author.Needs.{needs}
 use Rattle.filter.proofs.Numbered.{method-1, method-2, method-3, method-4, method-5, method-other, limits-at, row-at}
 use Rattle.filter.proofs.Table.{Limits, Products, eckhardt-products}
-use Rattle.filter.specs.Methods.{Method, lyne-hollick, chapman-1991, chapman-maxwell, boughton, eckhardt, tularam-ilahee, methodOf, weights}
+use Rattle.filter.specs.Methods.{lyne-hollick, chapman-1991, chapman-maxwell, boughton, eckhardt, tularam-ilahee, methodOf, weights}
 use Rattle.filter.proofs.method.table_row.Statement.{statement}
 use Rattle.filter.proofs.method.table_row.Tie as tie
 

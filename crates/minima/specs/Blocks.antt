@@ -1,0 +1,53 @@
+-- Blocks and their minima (document 01, "Block-minima line"), on the flows of one segment. Days count from the segment's
+-- first, which is 0, and so do blocks.
+use Prim.Native.Nat.{ℕ, suc, _+_, _*_, _-_, _/_, _≤_, _<_, min}
+use mathlib.Core.Bool.{cond}
+use mathlib.Core.List.{List, [], _∷_}
+use lib.ListN.{length, getD, take, drop}
+use lib.Dec.{eqb}
+
+-- y(t)
+abbrev pub flowOn : List ℕ → (t : ℕ) → ℕ
+flowOn flows t = getD flows t 0
+
+-- the day from which blocks run: the segment's first
+unfoldable pub origin : ℕ
+origin = 0
+
+-- the first day of block k
+unfoldable pub blockStart : (N k : ℕ) → ℕ
+blockStart N k = origin + k * N
+
+-- the number of blocks; an incomplete last one is dropped
+unfoldable pub blockCount : (N : ℕ) → List ℕ → ℕ
+blockCount N flows = (length flows - origin) / N
+
+-- the flows of block k
+unfoldable pub block : (N : ℕ) → List ℕ → (k : ℕ) → List ℕ
+block N flows k = take N (drop (blockStart N k) flows)
+
+-- the lowest flow of a block (0 where there is none)
+unfoldable pub lowest : List ℕ → ℕ
+lowest [] = 0
+lowest (y ∷ []) = y
+lowest (y ∷ z ∷ zs) = min y (lowest (z ∷ zs))
+
+-- the earliest position of the flow y
+unfoldable pub earliest : (y : ℕ) → List ℕ → ℕ
+earliest y [] = 0
+earliest y (x ∷ xs) = cond (eqb x y) 0 (suc (earliest y xs))
+
+-- a block's minimum: its lowest flow ..
+unfoldable pub minimumFlow : (N : ℕ) → List ℕ → (k : ℕ) → ℕ
+minimumFlow N flows k = lowest (block N flows k)
+
+-- .. on the earliest such day
+unfoldable pub minimumDay : (N : ℕ) → List ℕ → (k : ℕ) → ℕ
+minimumDay N flows k = blockStart N k + earliest (minimumFlow N flows k) (block N flows k)
+
+-- what a minimum is: of the days from a to before b, d has the lowest flow, and no earlier day has it
+pub record Minimum (flows : List ℕ) (a b d : ℕ) : Type 0 where
+  pub from : a ≤ d
+  pub to : d < b
+  pub lowest-flow : (t : ℕ) → a ≤ t → t < b → flowOn flows d ≤ flowOn flows t
+  pub earliest-day : (t : ℕ) → a ≤ t → t < d → flowOn flows d < flowOn flows t

@@ -1,0 +1,89 @@
+// The line of each segment of a day list.
+use crate::piece;
+use crate::piece::Piece;
+ghost use mathlib.Core.Path.{_≡_};
+ghost use mathlib.Core.List.{map};
+ghost use Prim.Native.Nat.{_≤_, _<_};
+ghost use lib.ListN.{length};
+ghost use Rattle.numbers.specs.Arithmetic.{rounded};
+ghost use Rattle.series.specs.Units.{dayOf, baseMark};
+ghost use Rattle.minima.specs.Line.{line};
+ghost use Rattle.minima.specs.Drawing.{hasTwo, noLine, lineList};
+ghost use Rattle.minima.specs.Pieces.{SegmentEnd};
+
+// Whether a segment has two turning points.
+fn has_two(n: usize, g: u32, days: &[u32]) -> bool
+    requires { ⌜ 0 < n ⌝ }
+    ensures { λ r. ⌜ r ≡ hasTwo n g (now (days .entry)) ⌝ }
+{
+    match piece::first_piece(n, g, days) {
+        Piece::Between {
+            left: _,
+            right: _,
+            block: _,
+        } => true,
+        Piece::Nothing => false,
+    }
+}
+
+// The line of one segment, each day of it written once.
+fn draw_segment(n: usize, g: u32, days: &[u32], base: &mut [u64])
+    requires { ⌜ (0 < n) × (length (now days) ≤ 36525) × (length (now days) ≡ length (now base)) ⌝ }
+    ensures { λ _. ⌜ now (base .exit) ≡ map baseMark (line rounded n g (now (days .entry))) ⌝ }
+{
+    let mut piece = piece::first_piece(n, g, days);
+    let mut t = 0;
+    while t < days.len() {
+        piece = piece::piece_on(n, g, days, piece, t);
+        base[t] = piece::day_base(days, piece, t);
+        t += 1;
+    }
+}
+
+// The first missing day from day `from` on, or the list's end.
+fn segment_end(days: &[u32], from: usize) -> usize
+    requires { ⌜ from ≤ length (now days) ⌝ }
+    ensures { λ r. ⌜ SegmentEnd (now (days .entry)) from r ⌝ }
+{
+    let mut end = from;
+    while end < days.len() {
+        if days[end] == series::MISSING {
+            return end;
+        }
+        end += 1;
+    }
+    end
+}
+
+// 17: no segment has two turning points.
+pub fn no_line(n: usize, g: u32, days: &[u32]) -> bool
+    requires { ⌜ 0 < n ⌝ }
+    ensures { λ r. ⌜ r ≡ noLine n g (map dayOf (now (days .entry))) ⌝ }
+{
+    let mut i = 0;
+    while i < days.len() {
+        let end = segment_end(days, i);
+        if has_two(n, g, &days[i..end]) {
+            return false;
+        }
+        i = end + 1;
+    }
+    true
+}
+
+// The lines of all segments, and no value on the missing days between them.
+pub fn draw(n: usize, g: u32, days: &[u32], base: &mut [u64])
+    requires { ⌜ (0 < n) × (length (now days) ≤ 36525) × (length (now days) ≡ length (now base)) ⌝ }
+    ensures { λ _. ⌜ now (base .exit) ≡ lineList n g (now (days .entry)) ⌝ }
+{
+    let mut i = 0;
+    while i < days.len() {
+        let end = segment_end(days, i);
+        draw_segment(n, g, &days[i..end], &mut base[i..end]);
+        if end == days.len() {
+            return;
+        }
+        base[end] = series::NO_VALUE;
+        i = end + 1;
+    }
+}
