@@ -1,0 +1,4 @@
+pub mod Claim
+pub mod Choosing
+pub mod Limits
+pub mod Separating

@@ -1,0 +1,2 @@
+pub mod Summing
+mod Outcomes

@@ -1,0 +1,149 @@
+-- Sums over the days with a base value: what one day adds, and what valid lists bound.
+-- Assumes nothing.
+use Prim.Native.Nat.{ℕ, zero, suc, _+_, _*_, _≤_, _<_}
+use mathlib.Core.Path.{_≡_, refl, sym, _∙_, ap, subst}
+use mathlib.Core.Bool.{true, false, true≢false}
+use mathlib.Core.List.{List, [], _∷_, map}
+use mathlib.Core.Logic.{⊎-elim}
+use mathlib.Core.Option.{Option, none, some, Option·none-ne-some, Option·some-injective}
+use native.Mathlib.Numerals.{add-one}
+use native.Mathlib.Omega.{arith}
+use lib.ListN.{length, getD, drop, drop-of-length-le}
+use lib.Seq.{drop-cons}
+use borrow.Author.Tests.{ltb-false}
+use Rattle.numbers.specs.Arithmetic.{rounded}
+use Rattle.series.specs.Units.{flowLimit, dayLimit, noValueMark, missingMark, isInvalidDay, dayOf, baseOf}
+use Rattle.series.specs.Lists.{tooLong, isInvalidBase, anyInvalidBase}
+use Rattle.series.proofs.Views.{base-none, base-value, day-missing, day-present, neither-of, valid-day, valid-at}
+use Rattle.series.proofs.Refusing.{Sound}
+use Rattle.totals.specs.declared.Tally.{Tally}
+use Rattle.totals.specs.Sums.{BaseDay, baseDays, flowTotal, baseTotal}
+use Rattle.totals.specs.Totalling.{listedDays}
+use Rattle.totals.specs.Adding.{addDay, Room, SumsOf}
+
+-- a valid base value stands on a present day, and is at most its flow
+none-on-missing : (b : ℕ) → isInvalidBase none (some b) ≡ false → ⊥
+unfolding isInvalidBase
+none-on-missing b e = true≢false e
+
+at-flow : (y b : ℕ) → isInvalidBase (some y) (some b) ≡ false → b ≤ 1000 * y
+unfolding isInvalidBase
+at-flow y b e = ltb-false (1000 * y) b e
+
+-- one day
+module _ (t : Tally) (d b : ℕ) where
+  pub no-value-added : b ≡ noValueMark → t ≡ addDay t (dayOf d) (baseOf b)
+  unfolding addDay
+  no-value-added e = rw (base-none b e)
+
+  -- a base value other than the mark: the day is present
+  pub on-present-day : (b ≡ noValueMark → ⊥) → isInvalidBase (dayOf d) (baseOf b) ≡ false → (d ≡ missingMark → ⊥) × (b ≤ 1000 * d)
+  unfolding isInvalidBase
+  on-present-day e h =
+      let k = rw (base-value b e) at h in
+      let present : d ≡ missingMark → ⊥ = λ m. true≢false (rw (day-missing d m) at k) in
+      (present, ltb-false (1000 * d) b (rw (day-present d present) at k))
+
+  pub value-added : (b ≡ noValueMark → ⊥) → (d ≡ missingMark → ⊥) → _≡_ {A = Tally} (record { days = t .days + 1; flow = t .flow + d; base = t .base + b }) (addDay t (dayOf d) (baseOf b))
+  unfolding addDay
+  value-added e h = rw (base-value b e, day-present d h)
+
+-- what a day adds to the sums is what it adds to the lists
+pub record Adds (t t′ : Tally) (before after : List (BaseDay ℕ)) : Type 0 where
+  pub days : t′ .days + length after ≡ t .days + length before
+  pub flow : t′ .flow + flowTotal after ≡ t .flow + flowTotal before
+  pub base : t′ .base + baseTotal rounded after ≡ t .base + baseTotal rounded before
+  pub one : t′ .days ≤ t .days + 1
+  pub one-flow : t′ .flow ≤ t .flow + flowLimit
+  pub one-base : t′ .base ≤ t .base + 1000 * flowLimit
+
+adds : (t : Tally) (o p : Option ℕ) (ds bs : List (Option ℕ)) → ((y : ℕ) → o ≡ some y → y ≤ flowLimit) → isInvalidBase o p ≡ false → Adds t (addDay t o p) (baseDays (o ∷ ds) (p ∷ bs)) (baseDays ds bs)
+unfolding addDay baseDays flowTotal baseTotal
+adds t o none ds bs l h = omega arith
+adds t none (some b) ds bs l h = absurd (none-on-missing b h)
+adds t (some y) (some b) ds bs l h = omega (arith, l y refl, at-flow y b h)
+
+valid-pair : (ds bs : List ℕ) (i : ℕ) → anyInvalidBase ds bs ≡ false → i < length ds → i < length bs → isInvalidBase (dayOf (getD ds i 0)) (baseOf (getD bs i 0)) ≡ false
+unfolding anyInvalidBase
+valid-pair [] bs i e h k = absurd (omega arith)
+valid-pair (d ∷ ds) [] i e h k = absurd (omega arith)
+valid-pair (d ∷ ds) (b ∷ bs) zero e h k = neither-of (isInvalidBase (dayOf d) (baseOf b)) (anyInvalidBase ds bs) e .0
+valid-pair (d ∷ ds) (b ∷ bs) (suc i) e h k = valid-pair ds bs i (neither-of (isInvalidBase (dayOf d) (baseOf b)) (anyInvalidBase ds bs) e .1) (omega arith) (omega arith)
+
+-- a present day's flow is within its limit
+flow-limit : (d : ℕ) → isInvalidDay d ≡ false → (y : ℕ) → dayOf d ≡ some y → y ≤ flowLimit
+flow-limit d v y e =
+    ⊎-elim (λ l. subst (λ n. n ≤ flowLimit) (Option·some-injective d y (sym (day-present d (λ m. absurd (omega arith))) ∙ e)) l)
+    (λ m. absurd (Option·none-ne-some y (sym (day-missing d m) ∙ e))) (valid-day d v)
+
+-- the loop
+module _ (ds bs : List ℕ) where
+  abbrev rest : ℕ → List (BaseDay ℕ)
+  rest i = listedDays (drop i ds) (drop i bs)
+
+  abbrev all : List (BaseDay ℕ)
+  all = listedDays ds bs
+
+  pub record Summed (t : Tally) (i : ℕ) : Type 0 where
+    pub within : i ≤ length ds
+    pub days : t .days + length (rest i) ≡ length all
+    pub flow : t .flow + flowTotal (rest i) ≡ flowTotal all
+    pub base : t .base + baseTotal rounded (rest i) ≡ baseTotal rounded all
+    pub few : t .days ≤ i
+    pub small-flow : t .flow ≤ flowLimit * i
+    pub small-base : t .base ≤ 1000 * flowLimit * i
+
+  pub sums-start : {t : Tally} → t .days ≡ 0 → t .flow ≡ 0 → t .base ≡ 0 → Summed t 0
+  sums-start e f g = record { within = omega arith; days = omega arith; flow = omega arith; base = omega arith; few = omega arith; small-flow = omega arith; small-base = omega arith }
+
+  module _ (s : Sound ds bs) (valid : anyInvalidBase ds bs ≡ false) where
+    few-days : length ds ≤ dayLimit
+    unfolding tooLong
+    few-days = ltb-false dayLimit (length ds) (s .not-long)
+
+    pub has-room : {t : Tally} {i : ℕ} → Summed t i → Room t
+    has-room r = record { days = omega (arith, few-days, r .few, r .within); flow = omega (arith, few-days, r .small-flow, r .within); base = omega (arith, few-days, r .small-base, r .within) }
+
+    next-rest : (i : ℕ) → i < length ds → rest i ≡ baseDays (dayOf (getD ds i 0) ∷ map dayOf (drop (i + 1) ds)) (baseOf (getD bs i 0) ∷ map baseOf (drop (i + 1) bs))
+    next-rest i h = let k : i < length bs = omega (arith, s .same-length) in rw (add-one, drop-cons ds i 0, drop-cons bs i 0)
+
+    pub valid-base-at : (i : ℕ) → i < length ds → isInvalidBase (dayOf (getD ds i 0)) (baseOf (getD bs i 0)) ≡ false
+    valid-base-at i h = valid-pair ds bs i valid h (omega (arith, s .same-length))
+
+    pub sums-turn : {t t′ : Tally} {i : ℕ} → i < length ds → t′ ≡ addDay t (dayOf (getD ds i 0)) (baseOf (getD bs i 0)) → Summed t i → Summed t′ (i + 1)
+    sums-turn {t} {t′} {i} h e r =
+        let n = next-rest i h in
+        let a = adds t (dayOf (getD ds i 0)) (baseOf (getD bs i 0)) (map dayOf (drop (i + 1) ds)) (map baseOf (drop (i + 1) bs)) (flow-limit (getD ds i 0) (valid-at ds i (s .valid) h)) (valid-base-at i h) in
+        subst (λ x. Summed x (i + 1)) (sym e)
+        (record {
+          within = omega arith;
+          days = a .days ∙ ap (λ l. t .days + length l) (sym n) ∙ r .days;
+          flow = a .flow ∙ ap (λ l. t .flow + flowTotal l) (sym n) ∙ r .flow;
+          base = a .base ∙ ap (λ l. t .base + baseTotal rounded l) (sym n) ∙ r .base;
+          few = omega (arith, a .one, r .few);
+          small-flow = omega (arith, a .one-flow, r .small-flow);
+          small-base = omega (arith, a .one-base, r .small-base);
+        })
+
+    pub sums-end : {t : Tally} {i : ℕ} → length ds ≤ i → Summed t i → SumsOf all t
+    unfolding baseDays flowTotal baseTotal
+    sums-end {t} {i} h r =
+        let none-left : rest i ≡ [] = rw (drop-of-length-le ds h) in
+        record {
+          days = omega (arith, r .days, ap length none-left);
+          flow = omega (arith, r .flow, ap flowTotal none-left);
+          base = omega (arith, r .base, ap (baseTotal rounded) none-left);
+          room = has-room r;
+        }
+
+-- what the totals of valid lists are
+pub base-at-most : (ds bs : List ℕ) → anyInvalidBase ds bs ≡ false → baseTotal rounded (listedDays ds bs) ≤ 1000 * flowTotal (listedDays ds bs)
+unfolding anyInvalidBase baseDays flowTotal baseTotal
+base-at-most [] bs e = omega arith
+base-at-most (d ∷ ds) [] e = omega arith
+base-at-most (d ∷ ds) (b ∷ bs) e = by-view (dayOf d) (baseOf b) (neither-of (isInvalidBase (dayOf d) (baseOf b)) (anyInvalidBase ds bs) e .0) (base-at-most ds bs (neither-of (isInvalidBase (dayOf d) (baseOf b)) (anyInvalidBase ds bs) e .1))
+  where
+    by-view : (o p : Option ℕ) → isInvalidBase o p ≡ false → baseTotal rounded (listedDays ds bs) ≤ 1000 * flowTotal (listedDays ds bs) → baseTotal rounded (baseDays (o ∷ map dayOf ds) (p ∷ map baseOf bs)) ≤ 1000 * flowTotal (baseDays (o ∷ map dayOf ds) (p ∷ map baseOf bs))
+    by-view o none h k = k
+    by-view none (some b) h k = k
+    by-view (some y) (some b) h k = omega (arith, at-flow y b h)
