@@ -19,7 +19,7 @@ use Rattle.series.proofs.Refusing.{Sound}
 use Rattle.totals.specs.declared.Tally.{Tally}
 use Rattle.totals.specs.Sums.{BaseDay, baseDays, flowTotal, baseTotal}
 use Rattle.totals.specs.Totalling.{listedDays}
-use Rattle.totals.specs.Adding.{addDay, Room, SumsOf}
+use Rattle.totals.specs.Adding.{addDay, Room, SumsOf, dayCounted, flowCounted, baseCounted}
 
 -- a valid base value stands on a present day, and is at most its flow
 none-on-missing : (b : ℕ) → isInvalidBase none (some b) ≡ false → ⊥
@@ -31,37 +31,50 @@ unfolding isInvalidBase
 at-flow y b e = ltb-false (1000 * y) b e
 
 -- one day
-module _ (t : Tally) (d b : ℕ) where
-  pub no-value-added : b ≡ noValueMark → t ≡ addDay t (dayOf d) (baseOf b)
-  unfolding addDay
-  no-value-added e = rw (base-none b e)
+module _ (d b : ℕ) where
+  pub none-counted : b ≡ noValueMark → (0 ≡ dayCounted (baseOf b)) × (0 ≡ flowCounted (dayOf d) (baseOf b)) × (0 ≡ baseCounted (baseOf b))
+  unfolding dayCounted flowCounted baseCounted
+  none-counted e = rw (base-none b e) (refl, refl, refl)
+
+  pub value-counted : (b ≡ noValueMark → ⊥) → (1 ≡ dayCounted (baseOf b)) × (b ≡ baseCounted (baseOf b))
+  unfolding dayCounted baseCounted
+  value-counted e = rw (base-value b e) (refl, refl)
 
   -- a base value other than the mark: the day is present
-  pub on-present-day : (b ≡ noValueMark → ⊥) → isInvalidBase (dayOf d) (baseOf b) ≡ false → (d ≡ missingMark → ⊥) × (b ≤ 1000 * d)
+  on-present-day : (b ≡ noValueMark → ⊥) → isInvalidBase (dayOf d) (baseOf b) ≡ false → (d ≡ missingMark → ⊥) × (b ≤ 1000 * d)
   unfolding isInvalidBase
   on-present-day e h =
       let k = rw (base-value b e) at h in
       let present : d ≡ missingMark → ⊥ = λ m. true≢false (rw (day-missing d m) at k) in
       (present, ltb-false (1000 * d) b (rw (day-present d present) at k))
 
-  pub value-added : (b ≡ noValueMark → ⊥) → (d ≡ missingMark → ⊥) → _≡_ {A = Tally} (record { days = t .days + 1; flow = t .flow + d; base = t .base + b }) (addDay t (dayOf d) (baseOf b))
-  unfolding addDay
-  value-added e h = rw (base-value b e, day-present d h)
+  pub present-counted : (b ≡ noValueMark → ⊥) → isInvalidBase (dayOf d) (baseOf b) ≡ false → d ≡ flowCounted (dayOf d) (baseOf b)
+  unfolding flowCounted
+  present-counted e h = rw (base-value b e, day-present d (on-present-day e h .0))
+
+-- what a valid day counts with is little
+pub record Little (o p : Option ℕ) : Type 0 where
+  pub day : dayCounted p ≤ 1
+  pub flow : flowCounted o p ≤ flowLimit
+  pub base : baseCounted p ≤ 1000 * flowLimit
+
+little : (o p : Option ℕ) → ((y : ℕ) → o ≡ some y → y ≤ flowLimit) → isInvalidBase o p ≡ false → Little o p
+unfolding dayCounted flowCounted baseCounted
+little o none l h = record { day = omega arith; flow = omega arith; base = omega arith }
+little none (some b) l h = absurd (none-on-missing b h)
+little (some y) (some b) l h = record { day = omega arith; flow = omega (arith, l y refl); base = omega (arith, l y refl, at-flow y b h) }
 
 -- what a day adds to the sums is what it adds to the lists
 pub record Adds (t t′ : Tally) (before after : List (BaseDay ℕ)) : Type 0 where
   pub days : t′ .days + length after ≡ t .days + length before
   pub flow : t′ .flow + flowTotal after ≡ t .flow + flowTotal before
   pub base : t′ .base + baseTotal rounded after ≡ t .base + baseTotal rounded before
-  pub one : t′ .days ≤ t .days + 1
-  pub one-flow : t′ .flow ≤ t .flow + flowLimit
-  pub one-base : t′ .base ≤ t .base + 1000 * flowLimit
 
-adds : (t : Tally) (o p : Option ℕ) (ds bs : List (Option ℕ)) → ((y : ℕ) → o ≡ some y → y ≤ flowLimit) → isInvalidBase o p ≡ false → Adds t (addDay t o p) (baseDays (o ∷ ds) (p ∷ bs)) (baseDays ds bs)
-unfolding addDay baseDays flowTotal baseTotal
-adds t o none ds bs l h = omega arith
-adds t none (some b) ds bs l h = absurd (none-on-missing b h)
-adds t (some y) (some b) ds bs l h = omega (arith, l y refl, at-flow y b h)
+adds : (t : Tally) (o p : Option ℕ) (ds bs : List (Option ℕ)) → isInvalidBase o p ≡ false → Adds t (addDay t o p) (baseDays (o ∷ ds) (p ∷ bs)) (baseDays ds bs)
+unfolding addDay dayCounted flowCounted baseCounted baseDays flowTotal baseTotal
+adds t o none ds bs h = omega arith
+adds t none (some b) ds bs h = absurd (none-on-missing b h)
+adds t (some y) (some b) ds bs h = omega arith
 
 valid-pair : (ds bs : List ℕ) (i : ℕ) → anyInvalidBase ds bs ≡ false → i < length ds → i < length bs → isInvalidBase (dayOf (getD ds i 0)) (baseOf (getD bs i 0)) ≡ false
 unfolding anyInvalidBase
@@ -75,6 +88,9 @@ flow-limit : (d : ℕ) → isInvalidDay d ≡ false → (y : ℕ) → dayOf d �
 flow-limit d v y e =
     ⊎-elim (λ l. subst (λ n. n ≤ flowLimit) (Option·some-injective d y (sym (day-present d (λ m. absurd (omega arith))) ∙ e)) l)
     (λ m. absurd (Option·none-ne-some y (sym (day-missing d m) ∙ e))) (valid-day d v)
+
+pub little-counted : (d b : ℕ) → isInvalidDay d ≡ false → isInvalidBase (dayOf d) (baseOf b) ≡ false → Little (dayOf d) (baseOf b)
+little-counted d b v h = little (dayOf d) (baseOf b) (flow-limit d v) h
 
 -- the loop
 module _ (ds bs : List ℕ) where
@@ -111,18 +127,20 @@ module _ (ds bs : List ℕ) where
     valid-base-at i h = valid-pair ds bs i valid h (omega (arith, s .same-length))
 
     pub sums-turn : {t t′ : Tally} {i : ℕ} → i < length ds → t′ ≡ addDay t (dayOf (getD ds i 0)) (baseOf (getD bs i 0)) → Summed t i → Summed t′ (i + 1)
+    unfolding addDay
     sums-turn {t} {t′} {i} h e r =
         let n = next-rest i h in
-        let a = adds t (dayOf (getD ds i 0)) (baseOf (getD bs i 0)) (map dayOf (drop (i + 1) ds)) (map baseOf (drop (i + 1) bs)) (flow-limit (getD ds i 0) (valid-at ds i (s .valid) h)) (valid-base-at i h) in
+        let a = adds t (dayOf (getD ds i 0)) (baseOf (getD bs i 0)) (map dayOf (drop (i + 1) ds)) (map baseOf (drop (i + 1) bs)) (valid-base-at i h) in
+        let l = little-counted (getD ds i 0) (getD bs i 0) (valid-at ds i (s .valid) h) (valid-base-at i h) in
         subst (λ x. Summed x (i + 1)) (sym e)
         (record {
           within = omega arith;
           days = a .days ∙ ap (λ l. t .days + length l) (sym n) ∙ r .days;
           flow = a .flow ∙ ap (λ l. t .flow + flowTotal l) (sym n) ∙ r .flow;
           base = a .base ∙ ap (λ l. t .base + baseTotal rounded l) (sym n) ∙ r .base;
-          few = omega (arith, a .one, r .few);
-          small-flow = omega (arith, a .one-flow, r .small-flow);
-          small-base = omega (arith, a .one-base, r .small-base);
+          few = omega (arith, l .day, r .few);
+          small-flow = omega (arith, l .flow, r .small-flow);
+          small-base = omega (arith, l .base, r .small-base);
         })
 
     pub sums-end : {t : Tally} {i : ℕ} → length ds ≤ i → Summed t i → SumsOf all t

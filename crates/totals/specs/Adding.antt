@@ -8,11 +8,23 @@ use Rattle.numbers.specs.Arithmetic.{rounded}
 use Rattle.totals.specs.Sums.{BaseDay, flowTotal, baseTotal}
 use Rattle.totals.specs.declared.Tally.{Tally}
 
+-- what a day counts with: one day, its flow and its base, where it has a base value
+unfoldable pub dayCounted : (base : Option ℕ) → ℕ
+dayCounted none = 0
+dayCounted (some b) = 1
+
+unfoldable pub flowCounted : (day base : Option ℕ) → ℕ
+flowCounted day none = 0
+flowCounted none (some b) = 0
+flowCounted (some y) (some b) = y
+
+unfoldable pub baseCounted : (base : Option ℕ) → ℕ
+baseCounted none = 0
+baseCounted (some b) = b
+
 -- the sums with one day more
-unfoldable pub addDay : Tally → Option ℕ → Option ℕ → Tally
-addDay t day none = t
-addDay t none (some b) = t
-addDay t (some y) (some b) = record { days = t .days + 1; flow = t .flow + y; base = t .base + b }
+unfoldable pub addDay : Tally → (day base : Option ℕ) → Tally
+addDay t day base = record { days = t .days + dayCounted base; flow = t .flow + flowCounted day base; base = t .base + baseCounted base }
 
 -- sums that leave room for one day more
 pub record Room (t : Tally) : Type 0 where

@@ -1,30 +1,44 @@
 -- `totals::with_day` meets its contract.
 -- Assumes nothing.
-use native.Mathlib.Omega.{arith}
+use Prim.Native.Nat.{_+_}
+use Rattle.series.specs.Units.{dayOf, baseOf}
+use Rattle.totals.specs.Adding.{addDay}
 use borrow.Author.Needs.{needs}
-use Rattle.totals.proofs.Summing.{no-value-added, on-present-day, value-added}
+use native.Mathlib.Omega.{arith}
+use Rattle.totals.proofs.Summing.{Little, little-counted}
 use Rattle.totals.proofs.with_day.Statement.{statement}
 use Rattle.totals.proofs.with_day.Tie as tie
 
-returns : tie.Need-returns
-returns c = no-value-added (c .before .args .tally) (c .before .args .day) (c .before .args .base) (c .if1 .taken)
+small : (s : tie.Start) → Little (dayOf (s .args .day)) (baseOf (s .args .base))
+small s = little-counted (s .args .day) (s .args .base) (s .pre .1 .0) (s .pre .1 .1)
 
-add-t5 : tie.Need-add-t5
-add-t5 c = search needs
+counted-requires : tie.Need-counted-requires
+counted-requires c κs = search needs
+
+counted-flow-requires : tie.Need-counted-flow-requires
+counted-flow-requires c κs = c .before .pre .1 .1
+
+counted-base-requires : tie.Need-counted-base-requires
+counted-base-requires c κs = search needs
 
 add-t7 : tie.Need-add-t7
-add-t7 c = search needs
+add-t7 c = omega (arith, c .before .before .before .before .pre .0 .days, c .before .before .before .counted .ensures, small (c .before .before .before .before) .day)
 
 add-t8 : tie.Need-add-t8
-add-t8 c =
-    let s = c .before .before .before .before in
-    omega (arith, s .pre .0 .base, on-present-day (s .args .tally) (s .args .day) (s .args .base) (c .before .before .before .if1 .left) (s .pre .1 .1))
+add-t8 c = omega (arith, c .before .before .before .before .before .pre .0 .flow, c .before .before .before .counted-flow .ensures, small (c .before .before .before .before .before) .flow)
 
-returns-2 : tie.Need-returns-2
-returns-2 c =
-    let s = c .before .before .before .before in
-    let e = c .before .before .before .if1 .left in
-    value-added (s .args .tally) (s .args .day) (s .args .base) e (on-present-day (s .args .tally) (s .args .day) (s .args .base) e (s .pre .1 .1) .0)
+add-t9 : tie.Need-add-t9
+add-t9 c = omega (arith, c .before .before .before .before .before .before .pre .0 .base, c .before .before .before .counted-base .ensures, small (c .before .before .before .before .before .before) .base)
+
+returns : tie.Need-returns
+unfolding addDay
+returns c =
+    let t = c .before .before .before .before .before .before .args .tally in
+    λ j. record {
+      days = t .days + c .before .before .before .before .before .counted .ensures j;
+      flow = t .flow + c .before .before .before .before .counted-flow .ensures j;
+      base = t .base + c .before .before .before .counted-base .ensures j;
+    }
 
 pub with-day-spec : {M : Type 1} → statement M
-with-day-spec = tie.close (tie.spec returns add-t5 add-t7 add-t8 returns-2)
+with-day-spec = tie.close (tie.spec counted-requires counted-flow-requires counted-base-requires add-t7 add-t8 add-t9 returns)

@@ -1,0 +1,14 @@
+-- `totals::counted_base` meets its contract.
+-- Assumes nothing.
+use Rattle.totals.proofs.Summing.{none-counted, value-counted}
+use Rattle.totals.proofs.counted_base.Statement.{statement}
+use Rattle.totals.proofs.counted_base.Tie as tie
+
+returns : tie.Need-returns
+returns c = none-counted 0 (c .before .args .base) (c .if1 .taken) .2
+
+returns-2 : tie.Need-returns-2
+returns-2 c = value-counted 0 (c .before .args .base) (c .if1 .left) .1
+
+pub counted-base-spec : {M : Type 1} → statement M
+counted-base-spec = tie.close (tie.spec returns returns-2)
