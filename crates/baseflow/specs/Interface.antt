@@ -1,0 +1,60 @@
+-- The C interface (include/baseflow.h): what a function returns and writes, of what its call comes to.
+use Prim.Native.Nat.{ℕ}
+use mathlib.Core.Bool.{cond}
+use mathlib.Core.Option.{Option, none, some}
+use lib.Dec.{eqb}
+use Rattle.series.specs.Units.{baseMark}
+use Rattle.series.specs.Causes.{Outcome, accepted, refused}
+use Rattle.filter.specs.declared.Setting.{Setting}
+use Rattle.filter.specs.declared.Yesterday.{Yesterday}
+use Rattle.filter.specs.declared.Yesterday.the-variants.{Unknown, Known}
+use Rattle.filter.specs.declared.DailyFilter.{DailyFilter}
+use Rattle.filter.specs.Daily.{fresh, after, Stepped}
+use Rattle.minima.specs.declared.LineSetting.{LineSetting}
+
+-- what is returned: 0, or the number of the refusal
+abbrev pub returned : {A : Type 0} → Outcome A → ℕ
+returned (accepted a) = 0
+returned (refused n) = n
+
+-- the same, by the first cause of refusal
+abbrev pub returnedCause : Option ℕ → ℕ
+returnedCause none = 0
+returnedCause (some n) = n
+
+-- an out-parameter at exit: one of the values, or what it was where the call refuses
+abbrev pub handedOut : {A : Type 0} → (A → ℕ) → Outcome A → ℕ → ℕ
+handedOut value (accepted a) entry = value a
+handedOut value (refused n) entry = entry
+
+-- settings
+abbrev pub settingOf : (method p q : ℕ) → Setting
+settingOf method p q = record { method = method; p = p; q = q }
+
+abbrev pub lineSettingOf : (blockDays factor : ℕ) → LineSetting
+lineSettingOf blockDays factor = record { «block_days» = blockDays; factor = factor }
+
+-- the daily step's state in three numbers: has_yesterday 0 is the fresh state, anything else a yesterday with flow and base
+unfoldable pub stateOf : (has flow base : ℕ) → DailyFilter
+stateOf has flow base = cond (eqb has 0) fresh (after flow base)
+
+-- a state as it is handed out: 1 with yesterday's flow and base, or all three 0
+abbrev pub hasYesterday : Yesterday → ℕ
+hasYesterday Unknown = 0
+hasYesterday (Known y b) = 1
+
+abbrev pub flowOf : Yesterday → ℕ
+flowOf Unknown = 0
+flowOf (Known y b) = y
+
+abbrev pub baseOf : Yesterday → ℕ
+baseOf Unknown = 0
+baseOf (Known y b) = b
+
+-- a part of the state at exit of a step, or what it was where the step refuses
+abbrev pub stateOut : (Yesterday → ℕ) → Stepped → ℕ → ℕ
+stateOut part s entry = handedOut (λ _. part (s .state .yesterday)) (s .outcome) entry
+
+-- the day's base value at exit, 2^64 - 1 on a missing day, or what it was where the step refuses
+abbrev pub valueOut : Stepped → ℕ → ℕ
+valueOut s entry = handedOut baseMark (s .outcome) entry

@@ -1,0 +1,211 @@
+// The C interface (include/baseflow.h): each function makes one call, answers 0 or document 01's number of the refusal,
+// and writes what the call gives through its out-parameters. On a refusal it writes to none of them.
+use filter::DailyFilter;
+use filter::Setting;
+use filter::Step;
+use filter::Yesterday;
+use minima::LineSetting;
+use series::Verdict;
+ghost use mathlib.Core.Path.{_≡_};
+ghost use lib.ListN.{length};
+ghost use Rattle.series.specs.Causes.{refusalOf, firstCause};
+ghost use Rattle.record.specs.Reading.{reading};
+ghost use Rattle.record.specs.Reply.{replyOf, listAfter};
+ghost use Rattle.filter.specs.Filtering.{filterCauses, filterLeaves};
+ghost use Rattle.filter.specs.Daily.{stepRule};
+ghost use Rattle.minima.specs.Drawing.{lineCauses, lineLeaves};
+ghost use Rattle.totals.specs.Totalling.{totalsOutcome};
+ghost use Rattle.recession.specs.Call.{countedLimbs, ratioOutcome, LimbList};
+ghost use Rattle.baseflow.specs.Interface.{returned, returnedCause, handedOut, settingOf, lineSettingOf, stateOf, hasYesterday, flowOf, baseOf, valueOut, stateOut};
+
+// 0 for an accepted call, else the number of its refusal.
+fn number(verdict: Verdict) -> u32
+    ensures { λ r. ⌜ r ≡ returnedCause (refusalOf verdict) ⌝ }
+{
+    match verdict {
+        Verdict::Accepted => 0,
+        Verdict::Refused(refusal) => refusal.number(),
+    }
+}
+
+// Reads a record into a day list.
+#[no_mangle]
+pub extern "C" fn baseflow_read(
+    bytes: &[u8],
+    days: &mut [u32],
+    first_day: &mut u32,
+    day_count: &mut u32,
+) -> u32
+    ensures { λ r. ⌜ r ≡ returned (replyOf (reading (length (now (days .entry))) (now (bytes .entry)))) ⌝ }
+    ensures { λ _. ⌜ now (days .exit) ≡ listAfter (reading (length (now (days .entry))) (now (bytes .entry))) (now (days .entry)) ⌝ }
+    ensures { λ _. ⌜ now («first_day» .exit) ≡ handedOut (λ s. s .firstDay) (replyOf (reading (length (now (days .entry))) (now (bytes .entry)))) (now («first_day» .entry)) ⌝ }
+    ensures { λ _. ⌜ now («day_count» .exit) ≡ handedOut (λ s. s .dayCount) (replyOf (reading (length (now (days .entry))) (now (bytes .entry)))) (now («day_count» .entry)) ⌝ }
+{
+    let answer = record::read(bytes, days);
+    match answer {
+        record::Answer::Refused(refusal) => refusal.number(),
+        record::Answer::Stated {
+            first_day: first,
+            day_count: count,
+        } => {
+            *first_day = first;
+            *day_count = count;
+            0
+        }
+    }
+}
+
+// Base flow of a day list by a filter, after 1 to 3 passes.
+#[no_mangle]
+pub extern "C" fn baseflow_filter(
+    method: u32,
+    p: u32,
+    q: u32,
+    passes: u32,
+    days: &[u32],
+    base: &mut [u64],
+) -> u32
+    ensures { λ r. ⌜ r ≡ returnedCause (firstCause (filterCauses (settingOf method p q) passes (now (days .entry)) (now (base .entry)))) ⌝ }
+    ensures { λ _. ⌜ now (base .exit) ≡ filterLeaves (settingOf method p q) passes (now (days .entry)) (now (base .entry)) ⌝ }
+{
+    let setting = Setting { method, p, q };
+    number(filter::filter(setting, passes, days, base))
+}
+
+// Base flow of a day list by the minima line.
+#[no_mangle]
+pub extern "C" fn baseflow_line(block_days: u32, factor: u32, days: &[u32], base: &mut [u64]) -> u32
+    ensures { λ r. ⌜ r ≡ returnedCause (firstCause (lineCauses (lineSettingOf «block_days» factor) (now (days .entry)) (now (base .entry)))) ⌝ }
+    ensures { λ _. ⌜ now (base .exit) ≡ lineLeaves (lineSettingOf «block_days» factor) (now (days .entry)) (now (base .entry)) ⌝ }
+{
+    let setting = LineSetting { block_days, factor };
+    number(minima::line(setting, days, base))
+}
+
+// Totals and index of a day list and its base list.
+#[no_mangle]
+pub extern "C" fn baseflow_totals(
+    days: &[u32],
+    base: &[u64],
+    base_days: &mut u32,
+    flow_total: &mut u64,
+    base_total: &mut u64,
+    quick_total: &mut u64,
+    index: &mut u32,
+) -> u32
+    ensures { λ r. ⌜ r ≡ returned (totalsOutcome (now (days .entry)) (now (base .entry))) ⌝ }
+    ensures { λ _. ⌜ now («base_days» .exit) ≡ handedOut (λ t. t .days) (totalsOutcome (now (days .entry)) (now (base .entry))) (now («base_days» .entry)) ⌝ }
+    ensures { λ _. ⌜ now («flow_total» .exit) ≡ handedOut (λ t. t .flow) (totalsOutcome (now (days .entry)) (now (base .entry))) (now («flow_total» .entry)) ⌝ }
+    ensures { λ _. ⌜ now («base_total» .exit) ≡ handedOut (λ t. t .base) (totalsOutcome (now (days .entry)) (now (base .entry))) (now («base_total» .entry)) ⌝ }
+    ensures { λ _. ⌜ now («quick_total» .exit) ≡ handedOut (λ t. t .quick) (totalsOutcome (now (days .entry)) (now (base .entry))) (now («quick_total» .entry)) ⌝ }
+    ensures { λ _. ⌜ now (index .exit) ≡ handedOut (λ t. t .index) (totalsOutcome (now (days .entry)) (now (base .entry))) (now (index .entry)) ⌝ }
+{
+    let answer = totals::total(days, base);
+    match answer {
+        totals::Answer::Refused(refusal) => refusal.number(),
+        totals::Answer::Summed(t) => {
+            *base_days = t.days;
+            *flow_total = t.flow;
+            *base_total = t.base;
+            *quick_total = t.quick;
+            *index = t.index;
+            0
+        }
+    }
+}
+
+// Recession ratios of a day list, with every counted limb listed.
+#[no_mangle]
+pub extern "C" fn baseflow_recession(
+    limb_days: u32,
+    days: &[u32],
+    limbs: &mut [u32],
+    ratio_count: &mut u32,
+    ratio: &mut u32,
+) -> u32
+    ensures { λ r. ⌜ r ≡ returned (ratioOutcome «limb_days» (now (days .entry)) (now (limbs .entry))) ⌝ }
+    ensures { λ _. ⌜ LimbList (ratioOutcome «limb_days» (now (days .entry)) (now (limbs .entry))) (countedLimbs «limb_days» (now (days .entry))) (now (limbs .entry)) (now (limbs .exit)) ⌝ }
+    ensures { λ _. ⌜ now («ratio_count» .exit) ≡ handedOut (λ s. s .count) (ratioOutcome «limb_days» (now (days .entry)) (now (limbs .entry))) (now («ratio_count» .entry)) ⌝ }
+    ensures { λ _. ⌜ now (ratio .exit) ≡ handedOut (λ s. s .median) (ratioOutcome «limb_days» (now (days .entry)) (now (limbs .entry))) (now (ratio .entry)) ⌝ }
+{
+    let answer = recession::ratios(limb_days, days, limbs);
+    match answer {
+        recession::Answer::Refused(refusal) => refusal.number(),
+        recession::Answer::Ratios { count, median } => {
+            *ratio_count = count;
+            *ratio = median;
+            0
+        }
+    }
+}
+
+// The daily step's state in three numbers.
+struct Known {
+    has: u32,
+    flow: u32,
+    base: u64,
+}
+
+// The state that three numbers stand for.
+fn state_of(has: u32, flow: u32, base: u64) -> DailyFilter
+    ensures { λ r. ⌜ r ≡ stateOf has flow base ⌝ }
+{
+    if has == 0 {
+        return DailyFilter::fresh();
+    }
+    DailyFilter {
+        yesterday: Yesterday::Known { flow, base },
+    }
+}
+
+// The three numbers of a state.
+fn known_of(state: DailyFilter) -> Known
+    ensures { λ r. ⌜ (r .has ≡ hasYesterday (state .yesterday)) × (r .flow ≡ flowOf (state .yesterday)) × (r .base ≡ baseOf (state .yesterday)) ⌝ }
+{
+    let yesterday = state.yesterday;
+    match yesterday {
+        Yesterday::Unknown => Known {
+            has: 0,
+            flow: 0,
+            base: 0,
+        },
+        Yesterday::Known { flow, base } => Known { has: 1, flow, base },
+    }
+}
+
+// The base value of one day more, with the state that goes from day to day.
+#[no_mangle]
+pub extern "C" fn baseflow_step(
+    method: u32,
+    p: u32,
+    q: u32,
+    day: u32,
+    has_yesterday: &mut u32,
+    flow: &mut u32,
+    base: &mut u64,
+    value: &mut u64,
+) -> u32
+    ensures { λ r. ⌜ r ≡ returned (stepRule (settingOf method p q) (stateOf (now («has_yesterday» .entry)) (now (flow .entry)) (now (base .entry))) day .outcome) ⌝ }
+    ensures { λ _. ⌜ now («has_yesterday» .exit) ≡ stateOut hasYesterday (stepRule (settingOf method p q) (stateOf (now («has_yesterday» .entry)) (now (flow .entry)) (now (base .entry))) day) (now («has_yesterday» .entry)) ⌝ }
+    ensures { λ _. ⌜ now (flow .exit) ≡ stateOut flowOf (stepRule (settingOf method p q) (stateOf (now («has_yesterday» .entry)) (now (flow .entry)) (now (base .entry))) day) (now (flow .entry)) ⌝ }
+    ensures { λ _. ⌜ now (base .exit) ≡ stateOut baseOf (stepRule (settingOf method p q) (stateOf (now («has_yesterday» .entry)) (now (flow .entry)) (now (base .entry))) day) (now (base .entry)) ⌝ }
+    ensures { λ _. ⌜ now (value .exit) ≡ valueOut (stepRule (settingOf method p q) (stateOf (now («has_yesterday» .entry)) (now (flow .entry)) (now (base .entry))) day) (now (value .entry)) ⌝ }
+{
+    let state = state_of(*has_yesterday, *flow, *base);
+    let setting = Setting { method, p, q };
+    let step = state.step(setting, day);
+    match step {
+        Step::Refused { refusal, state: _ } => refusal.number(),
+        Step::Next {
+            state: next,
+            base: b,
+        } => {
+            let known = known_of(next);
+            *has_yesterday = known.has;
+            *flow = known.flow;
+            *base = known.base;
+            *value = b;
+            0
+        }
+    }
+}
