@@ -215,7 +215,7 @@ static const char *difference(const struct test_case *c)
 // ---- shrinking
 
 static struct test_case smallest, attempt;
-static uint32_t attempts_left = 5000;
+static int64_t effort_left = 30000000; // in elements of lists, so that long cases get fewer attempts
 
 // Copies what a case uses of its room.
 static void copy(struct test_case *to, const struct test_case *from)
@@ -230,7 +230,10 @@ static void copy(struct test_case *to, const struct test_case *from)
 // Keeps the attempt if it still fails.
 static int keep(void)
 {
-    if (attempts_left == 0 || (attempts_left--, difference(&attempt) == NULL))
+    effort_left -= 100;
+    for (enum list list = 0; list < LISTS; list++)
+        effort_left -= (int64_t)length(&attempt, list);
+    if (effort_left < 0 || difference(&attempt) == NULL)
         return 0;
     copy(&smallest, &attempt);
     return 1;
