@@ -251,7 +251,7 @@ static int cut_pieces(enum list list, int with_base)
 {
     int better = 0;
     for (size_t count = length(&smallest, list); count > 0; count = count > 8 ? count / 2 : count - 1) {
-        for (size_t at = 0; at + count <= length(&smallest, list);) {
+        for (size_t at = 0; at + count <= length(&smallest, list) && effort_left > 0;) {
             copy(&attempt, &smallest);
             cut(&attempt, list, at, count);
             if (with_base)
@@ -268,7 +268,7 @@ static int cut_pieces(enum list list, int with_base)
 static int lower_days(void)
 {
     int better = 0;
-    for (size_t t = 0; t < smallest.days_len && smallest.call != READ; t++) {
+    for (size_t t = 0; t < smallest.days_len && smallest.call != READ && effort_left > 0; t++) {
         const uint32_t day = smallest.days[t], lower[] = {0, 1, 10, 100, day / 10 * 10, day / 2, day - 1};
         for (size_t i = 0; i < sizeof lower / sizeof *lower && day != MISSING; i++) {
             copy(&attempt, &smallest);
