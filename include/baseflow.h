@@ -29,12 +29,13 @@
  *   Numbers and list contents are free: there is no value that a call does not answer or refuse.
  *
  * What the caller gets
- *   - No state is kept between calls and there is no global data to be written: calls are re-entrant, and may run at
- *     the same time on different buffers, also from an interrupt.
- *   - No allocation, no input or output, no exit, no panic, no floating point. Every call ends, after a time that
- *     grows linearly with its lists.
- *   - Stack: bench/run measures it for each call. baseflow_recession keeps 10,001 counters and needs about 40 KiB, the
- *     others stay below 1 KiB.
+ *   - No state is kept between calls and no global data is written: calls are re-entrant, and may run at the same time
+ *     on different buffers.
+ *   - No allocation, no input or output, no exit, no panic. Of the C library only memset is needed. No floating point,
+ *     but vector registers may be used, as by any code for x86-64.
+ *   - Every call ends, after a time that grows linearly with the lengths that it is given.
+ *   - Stack, as bench/run measures it: baseflow_recession keeps 10,001 counters and needs 40 KiB, all others stay
+ *     below 512 bytes.
  */
 #ifndef BASEFLOW_H
 #define BASEFLOW_H
