@@ -4,8 +4,8 @@
 //     gcc -std=c11 -Iinclude examples/separate_record.c target/staticlib/libbaseflow.a -o target/separate_record
 //     target/separate_record [RECORD]
 //
-// Without a file it reads standard input. It exits with 0, with 1 where the engine refuses, with 2 where input or output
-// fails.
+// Without a file it reads standard input. It exits with 0, with 1 where the engine refuses, with 2 where input or
+// output fails.
 #include <errno.h>
 #include <inttypes.h>
 #include <stdio.h>
@@ -54,16 +54,18 @@ int main(int argc, char **argv)
     }
 
     uint32_t first_day, day_count;
-    if (refused("baseflow_read", baseflow_read(bytes, bytes_len, days, BASEFLOW_MOST_DAYS, &first_day, &day_count)))
+    uint32_t answer = baseflow_read(bytes, bytes_len, days, BASEFLOW_MOST_DAYS, &first_day, &day_count);
+    if (refused("baseflow_read", answer))
         return 1;
-    if (refused("baseflow_filter", baseflow_filter(BASEFLOW_LYNE_HOLLICK, 9250, 0, 1, days, day_count, base, day_count)))
+    answer = baseflow_filter(BASEFLOW_LYNE_HOLLICK, 9250, 0, 1, days, day_count, base, day_count);
+    if (refused("baseflow_filter", answer))
         return 1;
     print_days(first_day, day_count);
 
     uint32_t base_days, index;
     uint64_t flow_total, base_total, quick_total;
-    uint32_t answer = baseflow_totals(days, day_count, base, day_count, &base_days, &flow_total, &base_total,
-                                      &quick_total, &index);
+    answer = baseflow_totals(days, day_count, base, day_count, &base_days, &flow_total, &base_total, &quick_total,
+                             &index);
     if (answer == BASEFLOW_NO_FLOW)
         puts("index none"); // a dry river, or no day at all
     else if (refused("baseflow_totals", answer))

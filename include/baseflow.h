@@ -115,8 +115,8 @@ uint32_t baseflow_read(const uint8_t *bytes, size_t bytes_len, uint32_t *days, s
  * On 0: all of `base` is written, BASEFLOW_NO_VALUE on missing days and at most 1000 * flow on the others.
  * Lend a base list exactly as long as the day list.
  */
-uint32_t baseflow_filter(uint32_t method, uint32_t p, uint32_t q, uint32_t passes, const uint32_t *days, size_t days_len,
-                         uint64_t *base, size_t base_len);
+uint32_t baseflow_filter(uint32_t method, uint32_t p, uint32_t q, uint32_t passes, const uint32_t *days,
+                         size_t days_len, uint64_t *base, size_t base_len);
 
 /*
  * One pass of a filter for one day: for a box that separates as it measures. Steps from the fresh state over a day list
@@ -132,8 +132,8 @@ uint32_t baseflow_step(uint32_t method, uint32_t p, uint32_t q, uint32_t day, ui
                        uint64_t *base, uint64_t *value);
 
 /*
- * Separates base flow by the smoothed-minima line between turning points: blocks of `block_days` days (1 to 30), turning
- * where `factor` (1 to 9999; 9000 is usual) times a block's minimum is below both neighbours'.
+ * Separates base flow by the smoothed-minima line between turning points: blocks of `block_days` days (1 to 30),
+ * turning where `factor` (1 to 9999; 9000 is usual) times a block's minimum is below both neighbours'.
  *
  * Refuses: 16, 9, 14, 10, 17.
  * On 0: all of `base` is written, BASEFLOW_NO_VALUE on every day that lies between no two turning points of a stretch.
@@ -147,8 +147,8 @@ uint32_t baseflow_line(uint32_t block_days, uint32_t factor, const uint32_t *day
  *
  * Refuses: 9, 14, 10, 20, 21.
  * On 0: *base_days is the number of those days, *flow_total their flow in litres a second (summed over days),
- * *base_total their base flow and *quick_total the remaining flow, both in thousandths, *index the share of base flow in
- * ten-thousandths, 0 to 10,000.
+ * *base_total their base flow and *quick_total the remaining flow, both in thousandths, *index the share of base flow
+ * in ten-thousandths, 0 to 10,000.
  */
 uint32_t baseflow_totals(const uint32_t *days, size_t days_len, const uint64_t *base, size_t base_len,
                          uint32_t *base_days, uint64_t *flow_total, uint64_t *base_total, uint64_t *quick_total,
@@ -164,8 +164,8 @@ uint32_t baseflow_totals(const uint32_t *days, size_t days_len, const uint64_t *
  * limbs is free, and the rest of the list is left as it was. As many numbers as there are days are always enough.
  * A ratio of 0 or 10,000 is no parameter of a filter.
  */
-uint32_t baseflow_recession(uint32_t limb_days, const uint32_t *days, size_t days_len, uint32_t *limbs, size_t limbs_len,
-                            uint32_t *ratio_count, uint32_t *ratio);
+uint32_t baseflow_recession(uint32_t limb_days, const uint32_t *days, size_t days_len, uint32_t *limbs,
+                            size_t limbs_len, uint32_t *ratio_count, uint32_t *ratio);
 
 #ifdef __cplusplus
 }

@@ -3,8 +3,8 @@
 //
 //     differential SEED FIRST COUNT
 //
-// runs the cases FIRST to FIRST + COUNT - 1 of a seed, and prints how often each branch was hit. Where the two differ it
-// prints the smallest failing case that it finds, and exits with 1.
+// runs the cases FIRST to FIRST + COUNT - 1 of a seed, and prints how often each branch was hit. Where the two differ
+// it prints the smallest failing case that it finds, and exits with 1.
 //
 // Each list ends where readable memory ends, so that a call that reads or writes behind it is stopped, and has guard
 // bytes before it. Lists that a call has no business to write, and everything after a refusal, are held to what they
@@ -325,8 +325,8 @@ static void print_outs(enum call call, const struct outs *o)
     if (call == READ)
         printf(" first_day %" PRIu32 ", day_count %" PRIu32, o->small[0], o->small[1]);
     if (call == STEP || call == STEPS)
-        printf(" has_yesterday %" PRIu32 ", flow %" PRIu32 ", base %" PRIu64 ", value %" PRIu64, o->small[0], o->small[1],
-               o->large[0], o->large[1]);
+        printf(" has_yesterday %" PRIu32 ", flow %" PRIu32 ", base %" PRIu64 ", value %" PRIu64, o->small[0],
+               o->small[1], o->large[0], o->large[1]);
     if (call == TOTALS)
         printf(" base_days %" PRIu32 ", flow_total %" PRIu64 ", base_total %" PRIu64 ", quick_total %" PRIu64
                ", index %" PRIu32, o->small[0], o->large[0], o->large[1], o->large[2], o->small[1]);

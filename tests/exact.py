@@ -3,10 +3,10 @@
 
     tests/exact.py
 
-Each record is read, separated, stepped through day by day and totalled by the engine (include/baseflow.h). The days and
-the setting are worked out anew with fractions: document 01's rules, near left out. It fails with a message where a figure
-lies outside its limit, a day has a value in one run only, or a refusal is not the one that the rules give. It prints the
-largest share of each limit that was reached. Document 01's worked rivers are held to its figures first.
+Each record is read, separated, stepped through day by day and totalled by the engine (include/baseflow.h). The days
+and the setting are worked out anew with fractions: document 01's rules, near left out. It fails with a message where a
+figure lies outside its limit, a day has a value in one run only, or a refusal is not the one that the rules give. It
+prints the largest share of each limit that was reached. Document 01's worked rivers are held to its figures first.
 """
 import random
 import sys
@@ -207,8 +207,9 @@ class Shares:
         self.reached = {}
 
     def within(self, figure, value, exact, limit):
-        share = abs(value - exact) / limit
-        assert share <= 1, f"{figure}: {value} lies {float(abs(value - exact))} from {float(exact)}, limit {float(limit)}"
+        distance = abs(value - exact)
+        share = distance / limit
+        assert share <= 1, f"{figure}: {value} lies {float(distance)} from {float(exact)}, limit {float(limit)}"
         self.reached[figure] = max(share, self.reached.get(figure, Fraction(0)))
 
     def days_within(self, figure, days, base, exact, limit):
@@ -294,7 +295,7 @@ def main():
         runs += 1
     if runs < LEAST_RUNS:
         sys.exit(f"{runs} runs, where at least {LEAST_RUNS} are wanted")
-    print(f"exact: {runs} runs through the C interface lie within their limits; the largest share of each that was reached:")
+    print(f"exact: {runs} runs through the C interface lie within their limits; the largest share of each:")
     for figure, share in sorted(shares.reached.items()):
         print(f"  {figure}: {float(share):.3f}")
 

@@ -1,5 +1,6 @@
-// The generator of the differential runs. It aims at the edges of document 01: limits and their neighbours, marks, ties,
-// falls through gaps, full lists, lists of different lengths, and records damaged by cutting, flipping and inserting.
+// The generator of the differential runs. It aims at the edges of document 01: limits and their neighbours, marks,
+// ties, falls through gaps, full lists, lists of different lengths, and records damaged by cutting, flipping and
+// inserting.
 #include <string.h>
 
 #include "differential.h"

@@ -1,4 +1,4 @@
-"""What the tests in Python share: where things are, how C is built, and the engine's C interface (include/baseflow.h)."""
+"""What the tests share: where things are, how C is built, and the engine's C interface (include/baseflow.h)."""
 import ctypes
 import os
 import subprocess

@@ -166,9 +166,11 @@ def command():
         check((bad.returncode, bad.stdout) == (1, b""), "an error writes nothing and exits with 1")
         check(bad.stderr.startswith(b"tools/record: standard input, line 2: 'x' is no number"), bad.stderr.decode())
         bad = run("to-csv", table)
-        check(bad.stderr.decode() == f"tools/record: {table}, byte 0: refusal 2, this is no kind of entry (64)\n", bad.stderr.decode())
+        wanted = f"tools/record: {table}, byte 0: refusal 2, this is no kind of entry (64)\n"
+        check(bad.stderr.decode() == wanted, bad.stderr.decode())
         before = record.read_bytes()
-        check(run("to-record", "-", record, data=b"").returncode == 1 and record.read_bytes() == before, "an error leaves the file")
+        check(run("to-record", "-", record, data=b"").returncode == 1, "an empty table")
+        check(record.read_bytes() == before, "an error leaves the file as it was")
         check(b"cannot read" in run("to-csv", Path(folder, "none")).stderr, "a file that is not there")
         check(b"cannot write" in run("to-csv", record, folder).stderr, "a target that is a folder")
         check(run("to-litres").returncode == 2, "an unknown word")
@@ -181,8 +183,8 @@ def main():
     if len(sys.argv) != 1:
         sys.exit(__doc__)
     rng, engines = random.Random(1900), (Engine(), reference())
-    print(f"record: {tables()} tables, {round_trips(rng, engines)} round trips, {damaged(rng, engines)} damaged records and "
-          f"{command()} commands are as they should be")
+    counts = tables(), round_trips(rng, engines), damaged(rng, engines), command()
+    print("record: {} tables, {} round trips, {} damaged records and {} commands are as they should be".format(*counts))
 
 
 main()
