@@ -32,12 +32,12 @@ static const size_t widths[LISTS] = {1, 4, 8, 4};
 
 struct side {
     const char *name;
-    uint8_t *ends[LISTS]; // of the memory for each list
-    void *lists[LISTS];   // what was lent in the last run, and the rest of what it left
+    uint32_t (*call)(const struct test_case *c, void *const *lists, uint32_t *small, uint64_t *large);
+    uint8_t *ends[LISTS]; // where readable memory ends, for each list
+    void *lists[LISTS];   // lent in the last run, and as it left them
     struct outs outs;
     uint32_t answer;
 };
-static struct side engine = {.name = "engine"}, reference = {.name = "reference"};
 
 static size_t *length_of(struct test_case *c, enum list list)
 {
@@ -64,6 +64,35 @@ static int may_write(enum call call, enum list list)
     return (call == READ && list == DAYS) || ((call == FILTER || call == LINE) && list == BASE) ||
            (call == RECESSION && list == LIMBS);
 }
+
+// ---- the calls of each side, with out-parameters in fixed places
+
+#define MAKE_CALL(prefix)                                                                                              \
+    static uint32_t prefix##call(const struct test_case *c, void *const *lists, uint32_t *small, uint64_t *large)      \
+    {                                                                                                                  \
+        switch (c->call) {                                                                                             \
+        case READ:                                                                                                     \
+            return prefix##read(lists[BYTES], c->bytes_len, lists[DAYS], c->days_len, &small[0], &small[1]);           \
+        case FILTER:                                                                                                   \
+            return prefix##filter(c->method, c->p, c->q, c->passes, lists[DAYS], c->days_len, lists[BASE],             \
+                                  c->base_len);                                                                        \
+        case LINE:                                                                                                     \
+            return prefix##line(c->block_days, c->factor, lists[DAYS], c->days_len, lists[BASE], c->base_len);         \
+        case TOTALS:                                                                                                   \
+            return prefix##totals(lists[DAYS], c->days_len, lists[BASE], c->base_len, &small[0], &large[0], &large[1], \
+                                  &large[2], &small[1]);                                                               \
+        case RECESSION:                                                                                                \
+            return prefix##recession(c->limb_days, lists[DAYS], c->days_len, lists[LIMBS], c->limbs_len, &small[0],    \
+                                     &small[1]);                                                                       \
+        default:                                                                                                       \
+            return prefix##step(c->method, c->p, c->q, c->day, &small[0], &small[1], &large[0], &large[1]);            \
+        }                                                                                                              \
+    }
+MAKE_CALL(baseflow_)
+MAKE_CALL(reference_)
+
+static struct side engine = {.name = "engine", .call = baseflow_call};
+static struct side reference = {.name = "reference", .call = reference_call};
 
 // ---- lending
 
@@ -99,26 +128,6 @@ static void catch_signals(void)
         sigaction(numbers[i], &action, NULL);
 }
 
-// ---- the calls of each side, with out-parameters in fixed places
-
-#define CALL(prefix, c, s)                                                                                             \
-    ((c)->call == READ                                                                                                 \
-         ? prefix##read((s)->lists[BYTES], (c)->bytes_len, (s)->lists[DAYS], (c)->days_len, &(s)->outs.small[0],       \
-                        &(s)->outs.small[1])                                                                           \
-     : (c)->call == FILTER                                                                                             \
-         ? prefix##filter((c)->method, (c)->p, (c)->q, (c)->passes, (s)->lists[DAYS], (c)->days_len, (s)->lists[BASE], \
-                          (c)->base_len)                                                                               \
-     : (c)->call == STEP                                                                                               \
-         ? prefix##step((c)->method, (c)->p, (c)->q, (c)->day, &(s)->outs.small[0], &(s)->outs.small[1],               \
-                        &(s)->outs.large[0], &(s)->outs.large[1])                                                      \
-     : (c)->call == LINE                                                                                               \
-         ? prefix##line((c)->block_days, (c)->factor, (s)->lists[DAYS], (c)->days_len, (s)->lists[BASE], (c)->base_len)\
-     : (c)->call == TOTALS                                                                                             \
-         ? prefix##totals((s)->lists[DAYS], (c)->days_len, (s)->lists[BASE], (c)->base_len, &(s)->outs.small[0],       \
-                          &(s)->outs.large[0], &(s)->outs.large[1], &(s)->outs.large[2], &(s)->outs.small[1])          \
-         : prefix##recession((c)->limb_days, (s)->lists[DAYS], (c)->days_len, (s)->lists[LIMBS], (c)->limbs_len,       \
-                             &(s)->outs.small[0], &(s)->outs.small[1]))
-
 static int by_place(const void *a, const void *b)
 {
     uint32_t left = *(const uint32_t *)a, right = *(const uint32_t *)b;
@@ -135,7 +144,7 @@ static void run(struct side *side, const struct test_case *c)
     }
     side->outs = c->outs;
     running = side;
-    side->answer = side == &engine ? CALL(baseflow_, c, side) : CALL(reference_, c, side);
+    side->answer = side->call(c, side->lists, side->outs.small, side->outs.large);
     if (c->call == RECESSION && side->answer == 0) { // the order of the limbs is free
         size_t limbs = view_limbs(c).counted;
         if (2 * limbs <= c->limbs_len)
@@ -166,7 +175,6 @@ static const char *compare_steps(const struct test_case *c)
 {
     static uint64_t pass[ROOM_DAYS];
     struct outs ours = c->outs, theirs = c->outs;
-    ours.small[0] = theirs.small[0] = 0;
     reference_filter(c->method, c->p, c->q, 1, c->days, c->days_len, pass, c->days_len);
     for (size_t t = 0; t < c->days_len; t++) {
         running = &engine;

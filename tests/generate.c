@@ -156,6 +156,7 @@ static void make_step(struct test_case *c)
 static void make_steps(struct test_case *c)
 {
     rough = 0;
+    c->outs.small[0] = 0; // fresh, beside any flow and base
     do
         fill_setting(c);
     while (reference_filter(c->method, c->p, c->q, 1, c->days, 0, c->base, 0) != 0);

@@ -1,4 +1,7 @@
-"""What the tests share: where things are, how C is built, and the engine's C interface (include/baseflow.h)."""
+"""What the tests share: where things are, how C is built, and the engine's C interface (include/baseflow.h).
+
+The environment's BASEFLOW_ARCHIVE names another archive than target/staticlib/libbaseflow.a.
+"""
 import ctypes
 import os
 import subprocess
