@@ -1,21 +1,23 @@
 #!/usr/bin/env python3
-"""Checks the rounded run against an independent run in exact fractions, from a record's bytes to the index.
+"""Measures demand 3 through the C interface: the rounded run against an independent run in exact fractions.
 
-    tests/exact.py cases > crates/replay/stdin     the records and settings, from a fixed generator
-    tests/exact.py check crates/replay/stdin crates/replay/stdout
+    tests/exact.py
 
-The program `replay` runs the first file into the second. The check reads both, works out each record and setting anew
-with fractions (document 01's rules, near left out), and fails with a message where a figure lies outside its limit,
-a day has a value in one run only, or a refusal is not the one that the rules give. It prints the largest share of each limit
-that was reached.
+Each record is read, separated, stepped through day by day and totalled by the engine (include/baseflow.h). The days
+and the setting are worked out anew with fractions: document 01's rules, near left out. It fails with a message where a
+figure lies outside its limit, a day has a value in one run only, or a refusal is not the one that the rules give. It
+prints the largest share of each limit that was reached. Document 01's worked rivers are held to its figures first.
 """
 import random
 import sys
 from fractions import Fraction
-from math import floor
+
+sys.dont_write_bytecode = True
+from interface import Engine, Refused
 
 HALF = Fraction(1, 2)
-LEAST_CASES = 250
+LINE = 7  # stands for the block-minima line where a method is asked for
+LEAST_RUNS = 1500
 
 
 # document 01, "Filters": A, B, C and d by method, p and q
@@ -34,7 +36,7 @@ def filter_pass(w, u, start):
     A, B, C, d = w
     f = [start]
     for today, before in zip(u[1:], u):
-        f.append(min(today, Fraction(A * f[-1] + B * today + C * before, d)))
+        f.append(min(today, (A * f[-1] + B * today + C * before) / d))
     return f
 
 
@@ -71,7 +73,7 @@ def exact_line(days_per_block, factor, flows):
     return line
 
 
-def segments(days):
+def stretches(days):
     found, t = [], 0
     while t < len(days):
         if days[t] is None:
@@ -85,41 +87,41 @@ def segments(days):
     return found
 
 
-def refusal(kind, p, q, n, days):
-    if kind <= 6:
-        low = 3334 if kind == 2 else 1
-        has_q = kind in (4, 5)
-        most_q = 10000 if kind == 4 else 9999
-        if kind < 1:
+def refusal(method, p, q, n, days):
+    if method != LINE:
+        low = 3334 if method == 2 else 1
+        has_q = method in (4, 5)
+        most_q = 10000 if method == 4 else 9999
+        if not 1 <= method <= 6:
             return 11
         if not low <= p <= 9999 or (not 1 <= q <= most_q if has_q else q != 0):
             return 12
-        if not 1 <= n <= (3 if kind == 1 else 1):
+        if not 1 <= n <= (3 if method == 1 else 1):
             return 13
         return None
     if not 1 <= n <= 30 or not 1 <= p <= 9999:
         return 16
-    if all(len(turning_days(n, p, flows)) < 2 for _, flows in segments(days)):
+    if all(len(turning_days(n, p, flows)) < 2 for _, flows in stretches(days)):
         return 17
     return None
 
 
-def exact_run(kind, p, q, n, days):
+def exact_run(method, p, q, n, days):
     base = [None] * len(days)
-    for start, flows in segments(days):
-        run = exact_filter(kind, p, q, n, flows) if kind <= 6 else exact_line(n, p, flows)
+    for start, flows in stretches(days):
+        run = exact_line(n, p, flows) if method == LINE else exact_filter(method, p, q, n, flows)
         base[start:start + len(flows)] = run
     return base
 
 
-def daily_limit(kind, p, q, n):
-    if kind > 6:
+def daily_limit(method, p, q, n):
+    if method == LINE:
         return HALF
-    A, _, _, d = weights(kind, p, q)
+    A, _, _, d = weights(method, p, q)
     return Fraction(n * d, 2 * (d - A))
 
 
-# document 01, "The record": bytes of a record, and the days that such bytes state
+# document 01, "The record"
 def record(first, days):
     out, t = bytearray([1]) + first.to_bytes(4, "little"), 0
     while t < len(days):
@@ -135,19 +137,12 @@ def record(first, days):
     return bytes(out + b"\x09" + len(days).to_bytes(4, "little"))
 
 
-def stated(data):
-    days, at = [], 5
-    while data[at] != 9:
-        if data[at] == 2:
-            days.append(int.from_bytes(data[at + 1:at + 5], "little"))
-            at += 5
-        elif data[at] == 3:
-            days.append(None)
-            at += 1
-        else:
-            days += [None] * int.from_bytes(data[at + 1:at + 3], "little")
-            at += 3
-    return int.from_bytes(data[1:5], "little"), days
+def storms(rng, days, gap):
+    flow, river = 900.0, []
+    for _ in range(days):
+        flow = flow * 0.97 if rng.random() < 0.9 else flow + rng.expovariate(1 / 900)
+        river.append(None if rng.random() < gap else int(flow))
+    return river
 
 
 def rivers(rng):
@@ -161,12 +156,19 @@ def rivers(rng):
     yield "no day", []
     yield "gaps everywhere", [rng.choice((None, rng.randrange(50))) for _ in range(200)]
     yield "gaps at both ends", [None] * 3 + [rng.randrange(1000) for _ in range(60)] + [None] * 5
-    flow, river = 900.0, []
-    for _ in range(400):
-        flow = flow * 0.97 if rng.random() < 0.9 else flow + rng.expovariate(1 / 900)
-        river.append(None if rng.random() < 0.02 else int(flow))
-    yield "storms and recessions", river
+    yield "storms and recessions", storms(rng, 400, 0.02)
+    yield "ten years with gaps", storms(rng, 3653, 0.03)
     yield "saw", [rng.randrange(3, 12) for _ in range(180)]
+    yield "flow 1, then dry, again and again", ([1] * 25 + [0] * 5) * 6
+
+
+def any_setting(rng):
+    method = rng.randrange(1, LINE + 1)
+    if method == LINE:
+        return LINE, rng.randrange(1, 10000), 0, rng.randrange(1, 31)
+    p = rng.randrange(3334 if method == 2 else 1, 10000)
+    q = rng.randrange(1, 10001 if method == 4 else 10000) if method in (4, 5) else 0
+    return method, p, q, rng.randrange(1, 4) if method == 1 else 1
 
 
 def settings(rng):
@@ -178,33 +180,24 @@ def settings(rng):
     for method, p, q in ((2, 9500, 0), (2, 3334, 0), (3, 9700, 0), (4, 9000, 500), (4, 9999, 1), (5, 9780, 8000),
                          (5, 9999, 9999), (6, 5000, 0), (6, 9999, 0)):
         yield method, p, q, 1
-    for days_per_block, factor in ((1, 9000), (5, 9000), (5, 9999), (3, 1), (30, 9000)):
-        yield 7, factor, 0, days_per_block
+    for days_per_block, factor in ((1, 9000), (5, 9000), (5, 9999), (3, 1), (16, 9500), (30, 9000)):
+        yield LINE, factor, 0, days_per_block
 
 
 def cases():
     rng = random.Random(1900)
     for name, river in rivers(rng):
-        for kind, p, q, n in settings(rng):
-            yield kind, p, q, n, record(rng.randrange(100_000), river)
-    plain = record(0, [5, 4, 6])
-    for kind, p, q, n in ((0, 1, 0, 1), (1, 0, 0, 1), (3, 1, 1, 1), (2, 3333, 0, 1), (1, 9250, 0, 4), (2, 9500, 0, 2),
-                          (7, 9000, 0, 31), (7, 0, 0, 5), (7, 9000, 0, 5)):
-        yield kind, p, q, n, plain
-
-
-def framed():
-    for kind, p, q, n, data in cases():
-        yield bytes([kind]) + p.to_bytes(2, "little") + q.to_bytes(2, "little") + bytes([n]) + len(data).to_bytes(2, "little") + data
-
-
-def unframed(data):
-    at = 0
-    while at < len(data):
-        head, size = data[at:at + 8], int.from_bytes(data[at + 6:at + 8], "little")
-        p, q = (int.from_bytes(head[i:i + 2], "little") for i in (1, 3))
-        yield head[0], p, q, head[5], data[at + 8:at + 8 + size]
-        at += 8 + size
+        for setting in [*settings(rng), *(any_setting(rng) for _ in range(50))]:
+            yield name, setting, rng.randrange(100_000), river
+    full = storms(rng, 36525, 0.03)
+    for setting in ((1, 9250, 0, 3), (5, 9780, 8000, 1), (LINE, 9000, 0, 5)):
+        yield "36,525 days", setting, 99_999, full
+    for _ in range(800):
+        river = [rng.randrange(rng.choice((4, 100, 10_000_001))) for _ in range(rng.randrange(1, 60))]
+        yield "any", any_setting(rng), 0, river
+    for setting in ((0, 1, 0, 1), (1, 0, 0, 1), (3, 1, 1, 1), (2, 3333, 0, 1), (1, 9250, 0, 4), (2, 9500, 0, 2),
+                    (LINE, 9000, 0, 31), (LINE, 0, 0, 5), (LINE, 9000, 0, 5)):
+        yield "three days", setting, 0, [5, 4, 6]
 
 
 class Shares:
@@ -214,67 +207,97 @@ class Shares:
         self.reached = {}
 
     def within(self, figure, value, exact, limit):
-        share = abs(value - exact) / limit
-        assert share <= 1, f"{figure}: {value} lies {float(abs(value - exact))} from {float(exact)}, limit {float(limit)}"
+        distance = abs(value - exact)
+        share = distance / limit
+        assert share <= 1, f"{figure}: {value} lies {float(distance)} from {float(exact)}, limit {float(limit)}"
         self.reached[figure] = max(share, self.reached.get(figure, Fraction(0)))
 
+    def days_within(self, figure, days, base, exact, limit):
+        for day, b, f in zip(days, base, exact, strict=True):
+            assert (b is None) == (f is None), f"{figure}: a value in one run only"
+            if b is not None:
+                assert 0 <= b <= 1000 * day, f"{figure}: base {b} of flow {day}"
+                self.within(figure, b, f, limit)
 
-def check_case(case, line, shares):
-    kind, p, q, n, data = case
-    first, days = stated(data)
-    words = line.split()
-    number = refusal(kind, p, q, n, days)
-    if number is not None:
-        assert words == ["base", str(number)], f"{words[:4]}, where base flow refuses with {number}"
+
+def refused(call, *arguments):
+    """What a call answers: its number, and its result where that is None."""
+    try:
+        return None, call(*arguments)
+    except Refused as refusing:
+        return refusing.number, None
+
+
+def measure(engine, setting, first, stated, shares):
+    method, p, q, n = setting
+    assert engine.read(record(first, stated)) == (first, stated), "other days than the record states"
+    days = stated
+    number, base = refused(engine.line, n, p, days) if method == LINE else refused(engine.filter, method, p, q, n, days)
+    wanted = refusal(method, p, q, n, days)
+    assert number == wanted, f"base flow answers {number}, where {wanted} is due"
+    if wanted is not None:
         return
-    assert words[:2] == [str(first), str(len(days))], f"{words[:2]}, where the record states {first} and {len(days)}"
-    base = [None if w == "-" else int(w) for w in words[2:2 + len(days)]]
-    exact, limit = exact_run(kind, p, q, n, days), daily_limit(kind, p, q, n)
-    name = f"method {kind}, {n} passes" if kind == 1 else f"method {kind}" if kind <= 6 else "line"
-    for day, b, f in zip(days, base, exact, strict=True):
-        assert (b is None) == (f is None), "a value in one run only"
-        if b is not None:
-            assert 0 <= b <= 1000 * day, f"base {b} of flow {day}"
-            shares.within(name, b, f, limit)
-    counted = [(y, b, f) for y, b, f in zip(days, base, exact) if b is not None]
-    m, Y = len(counted), sum(y for y, _, _ in counted)
+    exact, limit = exact_run(method, p, q, n, days), daily_limit(method, p, q, n)
+    name = "line" if method == LINE else f"method 1, {n} passes" if method == 1 else f"method {method}"
+    shares.days_within(name, days, base, exact, limit)
+    if method != LINE and n == 1:
+        shares.days_within("daily steps", days, engine.steps(method, p, q, days), exact, limit)
+
+    counted = [(y, f) for y, f in zip(days, exact) if f is not None]
+    m, Y = len(counted), sum(y for y, _ in counted)
+    number, totals = refused(engine.totals, days, base)
+    assert number == (21 if Y == 0 else None), f"totals answer {number}, where the flow total is {Y}"
     if Y == 0:
-        assert words[2 + len(days):] == ["refused", "21"], f"{words[2 + len(days):]}, where the flow total is 0"
         return
-    got_m, got_Y, T, quick, index = map(int, words[2 + len(days):])
-    T_exact = sum(f for _, _, f in counted)
+    got_m, got_Y, T, quick, index = totals
+    T_exact = sum(f for _, f in counted)
     assert (got_m, got_Y) == (m, Y), f"m {got_m}, Y {got_Y}, where they are {m} and {Y}"
     shares.within("base total", T, T_exact, m * limit)
     shares.within("quick total", quick, 1000 * Y - T_exact, m * limit)
     shares.within("index", index, 10 * T_exact / Y, HALF + 10 * m * limit / Y)
 
 
-def check(stdin, stdout):
-    with open(stdin, "rb") as file:
-        data = file.read()
-    assert data == b"".join(framed()), f"{stdin} is not what the generator makes"
-    with open(stdout, encoding="ascii") as file:
-        lines = file.read().splitlines()
-    every = list(unframed(data))
-    assert len(every) == len(lines) >= LEAST_CASES, f"{len(lines)} lines for {len(every)} cases"
-    shares = Shares()
-    for number, (case, line) in enumerate(zip(every, lines), 1):
-        try:
-            check_case(case, line, shares)
-        except AssertionError as wrong:
-            sys.exit(f"case {number}, {case[:4]}: {wrong}")
-    print(f"exact: {len(lines)} runs lie within their limits; the largest share of each that was reached:")
-    for figure, share in sorted(shares.reached.items()):
-        print(f"  {figure}: {float(share):.3f}")
+# document 01, "Rivers worked through"
+def worked_rivers(engine):
+    line = [None, 8000, 8333, 8667, 9000, None]
+    flows = [10, 8, 10, 20, 9, 30]
+    return [
+        ("method 1", engine.filter(1, 9250, 0, 1, [100, 200]), [50000, 57500]),
+        ("method 1, falling", engine.filter(1, 9250, 0, 1, [1000, 10]), [500000, 10000]),
+        ("method 5", engine.filter(5, 9770, 8000, 1, [100, 100]), [72000, 72842]),
+        ("method 6", engine.filter(6, 5000, 0, 1, [1] * 6), [500, 750, 875, 938, 969, 985]),
+        ("method 2, p 3333", refused(engine.filter, 2, 3333, 0, 1, [1])[0], 12),
+        ("method 2, p 3334", refused(engine.filter, 2, 3334, 0, 1, [1])[0], None),
+        ("line", engine.line(1, 9000, flows), line),
+        ("line's index", engine.totals(flows, line)[4], 7234),
+        ("10 beside 9 does not turn", refused(engine.line, 1, 9000, [9, 10, 20, 8, 20])[0], 17),
+        ("10 beside 10 turns", engine.line(1, 9000, [10, 10, 20, 8, 20])[1], 10000),
+        ("L 3", engine.recession(3, [100, 90, 81]), (2, 9000, [(0, 3)])),
+        ("L 4", refused(engine.recession, 4, [100, 90, 81])[0], 19),
+        ("lower middle", engine.recession(3, [100, 50, 40]), (2, 5000, [(0, 3)])),
+        ("zero days", engine.read(bytes.fromhex("01 00000000 09 00000000")), (0, [])),
+        ("no bytes", refused(engine.read, b"")[0], 1),
+    ]
 
 
 def main():
-    if sys.argv[1:] == ["cases"]:
-        sys.stdout.buffer.write(b"".join(framed()))
-    elif len(sys.argv) == 4 and sys.argv[1] == "check":
-        check(sys.argv[2], sys.argv[3])
-    else:
+    if len(sys.argv) != 1:
         sys.exit(__doc__)
+    engine, shares, runs = Engine(), Shares(), 0
+    for name, given, wanted in worked_rivers(engine):
+        if given != wanted:
+            sys.exit(f"worked river '{name}': {given}, where document 01 has {wanted}")
+    for name, setting, first, days in cases():
+        try:
+            measure(engine, setting, first, days, shares)
+        except AssertionError as wrong:
+            sys.exit(f"river '{name}', setting {setting}: {wrong}")
+        runs += 1
+    if runs < LEAST_RUNS:
+        sys.exit(f"{runs} runs, where at least {LEAST_RUNS} are wanted")
+    print(f"exact: {runs} runs through the C interface lie within their limits; the largest share of each:")
+    for figure, share in sorted(shares.reached.items()):
+        print(f"  {figure}: {float(share):.3f}")
 
 
 main()

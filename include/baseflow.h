@@ -1,0 +1,174 @@
+/*
+ * baseflow.h - the base flow engine of the sealed gauging box
+ *
+ * Base flow is the part of a river's flow that groundwater feeds. From a record of daily flows the engine reads the
+ * days, separates base flow by a recursive filter or by the smoothed-minima line, totals it, and finds recession
+ * ratios. Link with target/staticlib/libbaseflow.a, which `rt staticlib baseflow` makes (x86-64).
+ *
+ * Units
+ *   flow        litres a second, whole, 0 to 10,000,000
+ *   base flow   thousandths of a litre a second; the whole of a day's flow y is 1000 * y there
+ *   parameters, factor, index and ratio
+ *               ten-thousandths: 9250 is 0.925
+ *   day list    uint32_t a day: its flow, or BASEFLOW_MISSING
+ *   base list   uint64_t a day: its base flow, or BASEFLOW_NO_VALUE
+ *   place       a day's position in a list, counted from 0
+ *
+ * Answers
+ *   Each call returns 0, or the number of the first cause to refuse that holds, in the order given with the call.
+ *   On a refusal nothing is written: every buffer and every out-parameter is as it was before the call. On 0 every
+ *   out-parameter is written, and of each buffer exactly the part that is named with the call.
+ *
+ * What the caller owes
+ *   - Pointers are not null, also where the length is 0 (pass the address of any object), and are aligned for their
+ *     type. Bytes of a record need no alignment.
+ *   - A length counts elements, not bytes, and that many elements may be read (and written, where the pointer is not
+ *     to const).
+ *   - No buffer or out-parameter overlaps another of the same call.
+ *   - Nobody else writes what a call was lent while it runs.
+ *   Numbers and list contents are free: there is no value that a call does not answer or refuse.
+ *
+ * What the caller gets
+ *   - No state is kept between calls and no global data is written: calls are re-entrant, and may run at the same time
+ *     on different buffers.
+ *   - No allocation, no input or output, no exit, no panic. Of the C library only memset is needed. No floating point,
+ *     but vector registers may be used, as by any code for x86-64.
+ *   - Every call ends, after a time that grows linearly with the lengths that it is given.
+ *   - Stack, as bench/run measures it: baseflow_recession keeps 10,001 counters and needs 40 KiB, all others stay
+ *     below 512 bytes.
+ */
+#ifndef BASEFLOW_H
+#define BASEFLOW_H
+
+#include <stddef.h>
+#include <stdint.h>
+
+#ifdef __cplusplus
+extern "C" {
+#endif
+
+/* marks */
+#define BASEFLOW_MISSING UINT32_MAX  /* in a day list: a missing day, 4,294,967,295 */
+#define BASEFLOW_NO_VALUE UINT64_MAX /* in a base list: no value on this day, 2^64 - 1 */
+
+/* limits */
+#define BASEFLOW_MOST_FLOW 10000000u   /* litres a second */
+#define BASEFLOW_MOST_DAYS 36525u      /* days in a record and in a day list */
+#define BASEFLOW_MOST_FIRST_DAY 99999u /* days since 1 January 1900, which is day 0 */
+
+/* kinds of a record's entries; numbers in a record are unsigned, low byte first */
+#define BASEFLOW_HEAD 0x01         /* 4 bytes: first day, 0 to 99,999 */
+#define BASEFLOW_FLOW 0x02         /* 4 bytes: the flow of one day */
+#define BASEFLOW_ONE_MISSING 0x03  /* no body: one missing day */
+#define BASEFLOW_MISSING_DAYS 0x04 /* 2 bytes: that many missing days, 1 to 65,535 */
+#define BASEFLOW_END 0x09          /* 4 bytes: number of days, missing ones included */
+
+/* methods of the filters, with p and q in ten-thousandths; q is 0 where none is named */
+#define BASEFLOW_LYNE_HOLLICK 1u    /* p 1 to 9999; one to three passes */
+#define BASEFLOW_CHAPMAN_1991 2u    /* p 3334 to 9999 */
+#define BASEFLOW_CHAPMAN_MAXWELL 3u /* p 1 to 9999 */
+#define BASEFLOW_BOUGHTON 4u        /* p 1 to 9999, q 1 to 10000 */
+#define BASEFLOW_ECKHARDT 5u        /* p 1 to 9999, q (BFImax) 1 to 9999 */
+#define BASEFLOW_TULARAM_ILAHEE 6u  /* p 1 to 9999 */
+
+/* what a call returns */
+enum baseflow_answer {
+    BASEFLOW_ACCEPTED = 0,
+    BASEFLOW_BYTES_SHORT = 1,      /* bytes end inside a body or before an end entry */
+    BASEFLOW_BAD_KIND = 2,         /* kind not 01, 02, 03, 04, 09 */
+    BASEFLOW_BAD_PLACE = 3,        /* first entry no head, or a later head */
+    BASEFLOW_BAD_VALUE = 4,        /* a record's value outside its range */
+    BASEFLOW_RECORD_TOO_LONG = 5,  /* record of over 36,525 days */
+    BASEFLOW_DAYS_SHORT = 6,       /* day list too short for the record */
+    BASEFLOW_BAD_COUNT = 7,        /* the end entry's count is wrong */
+    BASEFLOW_BYTES_LEFT = 8,       /* bytes after the end entry */
+    BASEFLOW_DAYS_TOO_LONG = 9,    /* day list over 36,525 long */
+    BASEFLOW_BAD_DAY = 10,         /* a day neither flow nor missing */
+    BASEFLOW_BAD_METHOD = 11,      /* method not 1 to 6 */
+    BASEFLOW_BAD_PARAMETER = 12,   /* p or q outside its range */
+    BASEFLOW_BAD_PASSES = 13,      /* passes not 1 to 3, or over 1 outside method 1 */
+    BASEFLOW_LENGTHS_DIFFER = 14,  /* base list and day list differ in length */
+    BASEFLOW_BAD_STATE = 15,       /* state's flow over its limit, or base over 1000 * flow */
+    BASEFLOW_BAD_BLOCK = 16,       /* block length or factor outside its range */
+    BASEFLOW_NO_LINE = 17,         /* no stretch has two turning points */
+    BASEFLOW_BAD_LIMB_DAYS = 18,   /* shortest limb outside its range */
+    BASEFLOW_NO_RATIO = 19,        /* no counted limb, so no ratio */
+    BASEFLOW_BAD_BASE = 20,        /* base value on a missing day or above 1000 * the day's flow */
+    BASEFLOW_NO_FLOW = 21,         /* the flow total is 0 */
+    BASEFLOW_LIMBS_SHORT = 22      /* limb list shorter than two numbers per counted limb */
+};
+
+/*
+ * Reads a record into a day list.
+ *
+ * Refuses entry by entry: 2, 3, 1, 4, 5, 6; at the end entry its count, 7, then 8. No bytes at all is 1.
+ * On 0: *first_day is the first day since 1 January 1900, *day_count the number of days (0 to 36,525). That many
+ * numbers are written from the start of `days`, the rest of it is left as it was. `days` may be of any length.
+ */
+uint32_t baseflow_read(const uint8_t *bytes, size_t bytes_len, uint32_t *days, size_t days_len, uint32_t *first_day,
+                       uint32_t *day_count);
+
+/*
+ * Separates base flow with a recursive filter. Each stretch of present days is filtered alone.
+ *
+ * Refuses: 11, 12, 13, 9, 14, 10.
+ * On 0: all of `base` is written, BASEFLOW_NO_VALUE on missing days and at most 1000 * flow on the others.
+ * Lend a base list exactly as long as the day list.
+ */
+uint32_t baseflow_filter(uint32_t method, uint32_t p, uint32_t q, uint32_t passes, const uint32_t *days,
+                         size_t days_len, uint64_t *base, size_t base_len);
+
+/*
+ * One pass of a filter for one day: for a box that separates as it measures. Steps from the fresh state over a day list
+ * give what baseflow_filter gives with one pass.
+ *
+ * The state is *has_yesterday, *flow and *base. With *has_yesterday 0 it is the fresh one, and *flow and *base are not
+ * looked at; with anything else *flow is yesterday's flow and *base its base flow. All three must be readable.
+ * Refuses: 11, 12, 15, 10.
+ * On 0: *value is the day's base flow and the state is that of this day (*has_yesterday 1, *flow the day, *base its
+ * base flow); after a missing day *value is BASEFLOW_NO_VALUE and *has_yesterday, *flow and *base are 0.
+ */
+uint32_t baseflow_step(uint32_t method, uint32_t p, uint32_t q, uint32_t day, uint32_t *has_yesterday, uint32_t *flow,
+                       uint64_t *base, uint64_t *value);
+
+/*
+ * Separates base flow by the smoothed-minima line between turning points: blocks of `block_days` days (1 to 30),
+ * turning where `factor` (1 to 9999; 9000 is usual) times a block's minimum is below both neighbours'.
+ *
+ * Refuses: 16, 9, 14, 10, 17.
+ * On 0: all of `base` is written, BASEFLOW_NO_VALUE on every day that lies between no two turning points of a stretch.
+ * Lend a base list exactly as long as the day list.
+ */
+uint32_t baseflow_line(uint32_t block_days, uint32_t factor, const uint32_t *days, size_t days_len, uint64_t *base,
+                       size_t base_len);
+
+/*
+ * Totals over the days that have a base value, and the base flow index.
+ *
+ * Refuses: 9, 14, 10, 20, 21.
+ * On 0: *base_days is the number of those days, *flow_total their flow in litres a second (summed over days),
+ * *base_total their base flow and *quick_total the remaining flow, both in thousandths, *index the share of base flow
+ * in ten-thousandths, 0 to 10,000.
+ */
+uint32_t baseflow_totals(const uint32_t *days, size_t days_len, const uint64_t *base, size_t base_len,
+                         uint32_t *base_days, uint64_t *flow_total, uint64_t *base_total, uint64_t *quick_total,
+                         uint32_t *index);
+
+/*
+ * Recession ratios: the flow of a day in ten-thousandths of that of the day before, over all falling limbs of at least
+ * `limb_days` days (2 to 60), and their median.
+ *
+ * Refuses: 18, 9, 10, 19, 22.
+ * On 0: *ratio_count is the number of ratios, *ratio the one in the middle (of two, the lower), 0 to 10,000. From its
+ * start `limbs` gets two numbers per counted limb, the place of its first day and its number of days; the order of the
+ * limbs is free, and the rest of the list is left as it was. As many numbers as there are days are always enough.
+ * A ratio of 0 or 10,000 is no parameter of a filter.
+ */
+uint32_t baseflow_recession(uint32_t limb_days, const uint32_t *days, size_t days_len, uint32_t *limbs,
+                            size_t limbs_len, uint32_t *ratio_count, uint32_t *ratio);
+
+#ifdef __cplusplus
+}
+#endif
+
+#endif

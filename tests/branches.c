@@ -1,0 +1,538 @@
+// How often each refusal of each call, and each branch of an accepted one, was hit. A branch that no case has hit makes
+// tests/differential fail.
+#include <inttypes.h>
+#include <stdio.h>
+
+#include "differential.h"
+
+#define BRANCHES(X)                                                                                                    \
+    X(READ_1_EMPTY, "read", "refused 1, no bytes")                                                                     \
+    X(READ_1_HEAD, "read", "refused 1, head cut")                                                                      \
+    X(READ_1_FLOW, "read", "refused 1, flow cut")                                                                      \
+    X(READ_1_GAP, "read", "refused 1, missing days cut")                                                               \
+    X(READ_1_END, "read", "refused 1, end cut")                                                                        \
+    X(READ_1_NO_END, "read", "refused 1, no end")                                                                      \
+    X(READ_2_FIRST, "read", "refused 2, first kind")                                                                   \
+    X(READ_2_LATER, "read", "refused 2, later kind")                                                                   \
+    X(READ_3_FIRST, "read", "refused 3, first no head")                                                                \
+    X(READ_3_LATER, "read", "refused 3, later head")                                                                   \
+    X(READ_4_HEAD, "read", "refused 4, first day")                                                                     \
+    X(READ_4_HEAD_NEXT, "read", "refused 4, first day 100,000")                                                        \
+    X(READ_4_FLOW, "read", "refused 4, flow")                                                                          \
+    X(READ_4_FLOW_NEXT, "read", "refused 4, flow 10,000,001")                                                          \
+    X(READ_4_FLOW_MARK, "read", "refused 4, flow is the mark")                                                         \
+    X(READ_4_GAP, "read", "refused 4, no missing days")                                                                \
+    X(READ_5_FLOW, "read", "refused 5, at a flow")                                                                     \
+    X(READ_5_ONE, "read", "refused 5, at a missing day")                                                               \
+    X(READ_5_GAP, "read", "refused 5, at missing days")                                                                \
+    X(READ_6_FLOW, "read", "refused 6, at a flow")                                                                     \
+    X(READ_6_ONE, "read", "refused 6, at a missing day")                                                               \
+    X(READ_6_GAP, "read", "refused 6, at missing days")                                                                \
+    X(READ_7_LOW, "read", "refused 7, count low")                                                                      \
+    X(READ_7_HIGH, "read", "refused 7, count high")                                                                    \
+    X(READ_8, "read", "refused 8")                                                                                     \
+    X(READ_NO_DAY, "read", "accepted, no day")                                                                         \
+    X(READ_FLOWS, "read", "accepted, flows")                                                                           \
+    X(READ_ONES, "read", "accepted, single missing days")                                                              \
+    X(READ_GAPS, "read", "accepted, missing days")                                                                     \
+    X(READ_LAST_FIRST, "read", "accepted, first day 99,999")                                                           \
+    X(READ_MOST_FLOW, "read", "accepted, flow 10,000,000")                                                             \
+    X(READ_MOST_DAYS, "read", "accepted, 36,525 days")                                                                 \
+    X(READ_FULL, "read", "accepted, list filled")                                                                      \
+    X(READ_REST, "read", "accepted, rest of list left")                                                                \
+    X(FILTER_11, "filter", "refused 11")                                                                               \
+    X(FILTER_12_P_LOW, "filter", "refused 12, p low")                                                                  \
+    X(FILTER_12_P_HIGH, "filter", "refused 12, p high")                                                                \
+    X(FILTER_12_P_3333, "filter", "refused 12, method 2 with p 3333")                                                  \
+    X(FILTER_12_Q_LOW, "filter", "refused 12, q low")                                                                  \
+    X(FILTER_12_Q_HIGH, "filter", "refused 12, q high")                                                                \
+    X(FILTER_12_Q_GIVEN, "filter", "refused 12, q not 0")                                                              \
+    X(FILTER_13_NONE, "filter", "refused 13, no pass")                                                                 \
+    X(FILTER_13_FOUR, "filter", "refused 13, over 3")                                                                  \
+    X(FILTER_13_OTHER, "filter", "refused 13, over 1 outside method 1")                                                \
+    X(FILTER_9, "filter", "refused 9")                                                                                 \
+    X(FILTER_14_SHORT, "filter", "refused 14, base short")                                                             \
+    X(FILTER_14_LONG, "filter", "refused 14, base long")                                                               \
+    X(FILTER_10, "filter", "refused 10")                                                                               \
+    X(FILTER_1_1, "filter", "method 1, one pass")                                                                      \
+    X(FILTER_1_2, "filter", "method 1, two passes")                                                                    \
+    X(FILTER_1_3, "filter", "method 1, three passes")                                                                  \
+    X(FILTER_2, "filter", "method 2")                                                                                  \
+    X(FILTER_3, "filter", "method 3")                                                                                  \
+    X(FILTER_4, "filter", "method 4")                                                                                  \
+    X(FILTER_5, "filter", "method 5")                                                                                  \
+    X(FILTER_6, "filter", "method 6")                                                                                  \
+    X(FILTER_NO_DAY, "filter", "accepted, no day")                                                                     \
+    X(FILTER_ALL_MISSING, "filter", "accepted, all missing")                                                           \
+    X(FILTER_GAPS, "filter", "accepted, several stretches")                                                            \
+    X(FILTER_CAPPED, "filter", "accepted, base held to the flow")                                                      \
+    X(FILTER_MOST_DAYS, "filter", "accepted, 36,525 days")                                                             \
+    X(STEP_11, "step", "refused 11")                                                                                   \
+    X(STEP_12, "step", "refused 12")                                                                                   \
+    X(STEP_15_FLOW, "step", "refused 15, flow")                                                                        \
+    X(STEP_15_BASE, "step", "refused 15, base")                                                                        \
+    X(STEP_15_NEXT, "step", "refused 15, base 1000 x flow + 1")                                                        \
+    X(STEP_10, "step", "refused 10")                                                                                   \
+    X(STEP_1_FRESH, "step", "method 1, fresh")                                                                         \
+    X(STEP_2_FRESH, "step", "method 2, fresh")                                                                         \
+    X(STEP_3_FRESH, "step", "method 3, fresh")                                                                         \
+    X(STEP_4_FRESH, "step", "method 4, fresh")                                                                         \
+    X(STEP_5_FRESH, "step", "method 5, fresh")                                                                         \
+    X(STEP_6_FRESH, "step", "method 6, fresh")                                                                         \
+    X(STEP_1_AFTER, "step", "method 1, yesterday")                                                                     \
+    X(STEP_2_AFTER, "step", "method 2, yesterday")                                                                     \
+    X(STEP_3_AFTER, "step", "method 3, yesterday")                                                                     \
+    X(STEP_4_AFTER, "step", "method 4, yesterday")                                                                     \
+    X(STEP_5_AFTER, "step", "method 5, yesterday")                                                                     \
+    X(STEP_6_AFTER, "step", "method 6, yesterday")                                                                     \
+    X(STEP_MISSING_FRESH, "step", "missing day, fresh")                                                                \
+    X(STEP_MISSING_AFTER, "step", "missing day, yesterday")                                                            \
+    X(STEP_FRESH_UNREAD, "step", "fresh beside an impossible flow or base")                                            \
+    X(STEP_OTHER_MARK, "step", "yesterday marked by another number than 1")                                            \
+    X(STEPS_1, "steps", "method 1")                                                                                    \
+    X(STEPS_2, "steps", "method 2")                                                                                    \
+    X(STEPS_3, "steps", "method 3")                                                                                    \
+    X(STEPS_4, "steps", "method 4")                                                                                    \
+    X(STEPS_5, "steps", "method 5")                                                                                    \
+    X(STEPS_6, "steps", "method 6")                                                                                    \
+    X(STEPS_MOST_DAYS, "steps", "36,525 days")                                                                         \
+    X(LINE_16_N_LOW, "line", "refused 16, N low")                                                                      \
+    X(LINE_16_N_HIGH, "line", "refused 16, N high")                                                                    \
+    X(LINE_16_G_LOW, "line", "refused 16, g low")                                                                      \
+    X(LINE_16_G_HIGH, "line", "refused 16, g high")                                                                    \
+    X(LINE_9, "line", "refused 9")                                                                                     \
+    X(LINE_14_SHORT, "line", "refused 14, base short")                                                                 \
+    X(LINE_14_LONG, "line", "refused 14, base long")                                                                   \
+    X(LINE_10, "line", "refused 10")                                                                                   \
+    X(LINE_17_NO_TURN, "line", "refused 17, no turning point")                                                         \
+    X(LINE_17_ONE_TURN, "line", "refused 17, one turning point")                                                       \
+    X(LINE_17_APART, "line", "refused 17, one in each of several stretches")                                           \
+    X(LINE_ONE, "line", "accepted, two turning points")                                                                \
+    X(LINE_MANY, "line", "accepted, more in a stretch")                                                                \
+    X(LINE_STRETCHES, "line", "accepted, lines in several stretches")                                                  \
+    X(LINE_TIE, "line", "accepted, a block's minimum twice")                                                           \
+    X(LINE_ALMOST, "line", "accepted, g x middle equal to 10000 x outer")                                              \
+    X(LINE_DROPPED, "line", "accepted, last block incomplete")                                                         \
+    X(LINE_CAPPED, "line", "accepted, line held to the flow")                                                          \
+    X(LINE_N_1, "line", "accepted, N 1")                                                                               \
+    X(LINE_N_30, "line", "accepted, N 30")                                                                             \
+    X(LINE_MOST_DAYS, "line", "accepted, 36,525 days")                                                                 \
+    X(TOTALS_9, "totals", "refused 9")                                                                                 \
+    X(TOTALS_14_SHORT, "totals", "refused 14, base short")                                                             \
+    X(TOTALS_14_LONG, "totals", "refused 14, base long")                                                               \
+    X(TOTALS_10, "totals", "refused 10")                                                                               \
+    X(TOTALS_20_MISSING, "totals", "refused 20, on a missing day")                                                     \
+    X(TOTALS_20_ABOVE, "totals", "refused 20, above the flow")                                                         \
+    X(TOTALS_20_NEXT, "totals", "refused 20, 1000 x flow + 1")                                                         \
+    X(TOTALS_21_NO_VALUE, "totals", "refused 21, no value")                                                            \
+    X(TOTALS_21_DRY, "totals", "refused 21, dry days")                                                                 \
+    X(TOTALS_ALL, "totals", "accepted, value on all days")                                                             \
+    X(TOTALS_SOME, "totals", "accepted, value on some days")                                                           \
+    X(TOTALS_INDEX_0, "totals", "accepted, index 0")                                                                   \
+    X(TOTALS_INDEX_MOST, "totals", "accepted, index 10,000")                                                           \
+    X(TOTALS_HALF, "totals", "accepted, index at a half")                                                              \
+    X(TOTALS_MOST_DAYS, "totals", "accepted, 36,525 days")                                                             \
+    X(RECESSION_18_LOW, "recession", "refused 18, L low")                                                              \
+    X(RECESSION_18_HIGH, "recession", "refused 18, L high")                                                            \
+    X(RECESSION_9, "recession", "refused 9")                                                                           \
+    X(RECESSION_10, "recession", "refused 10")                                                                         \
+    X(RECESSION_19_NO_LIMB, "recession", "refused 19, no limb")                                                        \
+    X(RECESSION_19_SHORT, "recession", "refused 19, short limbs only")                                                 \
+    X(RECESSION_22_NONE, "recession", "refused 22, empty list")                                                        \
+    X(RECESSION_22_BY_ONE, "recession", "refused 22, short by one")                                                    \
+    X(RECESSION_ODD, "recession", "accepted, odd k")                                                                   \
+    X(RECESSION_EVEN, "recession", "accepted, even k")                                                                 \
+    X(RECESSION_LIMBS, "recession", "accepted, several limbs")                                                         \
+    X(RECESSION_EXACT, "recession", "accepted, a limb of L days")                                                      \
+    X(RECESSION_PASSED, "recession", "accepted, a shorter limb passed over")                                           \
+    X(RECESSION_GAP, "recession", "accepted, a fall through a gap")                                                    \
+    X(RECESSION_RATIO_0, "recession", "accepted, ratio 0")                                                             \
+    X(RECESSION_RATIO_MOST, "recession", "accepted, ratio 10,000")                                                     \
+    X(RECESSION_L_2, "recession", "accepted, L 2")                                                                     \
+    X(RECESSION_L_60, "recession", "accepted, L 60")                                                                   \
+    X(RECESSION_FULL, "recession", "accepted, list filled")                                                            \
+    X(RECESSION_REST, "recession", "accepted, rest of list left")                                                      \
+    X(RECESSION_MOST_DAYS, "recession", "accepted, 36,525 days")
+
+#define AS_NUMBER(id, call, name) id,
+#define AS_ROW(id, call, name) {call, name, 0},
+enum branch { BRANCHES(AS_NUMBER) BRANCH_COUNT };
+static struct {
+    const char *call, *name;
+    uint64_t hits;
+} rows[BRANCH_COUNT] = {BRANCHES(AS_ROW)};
+
+static void hit(enum branch branch)
+{
+    rows[branch].hits++;
+}
+
+static void hit_if(int holds, enum branch branch)
+{
+    rows[branch].hits += holds != 0;
+}
+
+static enum branch behind(enum branch branch, uint32_t places)
+{
+    return (enum branch)((uint32_t)branch + places);
+}
+
+void print_branches(void)
+{
+    for (size_t i = 0; i < BRANCH_COUNT; i++)
+        printf("%s\t%s\t%" PRIu64 "\n", rows[i].call, rows[i].name, rows[i].hits);
+}
+
+// ---- the record
+
+// Walks over the entries to the first that could be refused, or to the end entry.
+static void count_read(const struct test_case *c, uint32_t answer, const struct outs *outs)
+{
+    size_t at = 0, total = 0, seen[10] = {0}, most_flows = 0;
+    uint32_t kind = 0, value = 0;
+    for (size_t body; at < c->bytes_len; at += 1 + body) {
+        kind = c->bytes[at];
+        body = kind == 3 ? 0 : kind == 4 ? 2 : 4;
+        if ((kind < 1 || kind > 4) && kind != 9)
+            break;
+        if (c->bytes_len - at - 1 < body)
+            break;
+        value = 0;
+        for (size_t i = body; i > 0; i--)
+            value = value << 8 | c->bytes[at + i];
+        if ((kind == 1 && value > MOST_FIRST_DAY) || (kind == 2 && value > MOST_FLOW) || (kind == 4 && value == 0))
+            break;
+        seen[kind]++;
+        most_flows += kind == 2 && value == MOST_FLOW;
+        total += kind == 2 || kind == 3 ? 1 : kind == 4 ? value : 0;
+        if (kind == 9 || total > MOST_DAYS || total > c->days_len)
+            break;
+    }
+    enum branch by_kind = kind == 2 ? 0 : kind == 3 ? 1 : 2;
+    switch (answer) {
+    case 1:
+        if (at == c->bytes_len)
+            hit(at == 0 ? READ_1_EMPTY : READ_1_NO_END);
+        else
+            hit(kind == 1 ? READ_1_HEAD : kind == 2 ? READ_1_FLOW : kind == 4 ? READ_1_GAP : READ_1_END);
+        break;
+    case 2:
+        hit(at == 0 ? READ_2_FIRST : READ_2_LATER);
+        break;
+    case 3:
+        hit(c->bytes[0] != 1 ? READ_3_FIRST : READ_3_LATER);
+        break;
+    case 4:
+        hit(kind == 1 ? READ_4_HEAD : kind == 2 ? READ_4_FLOW : READ_4_GAP);
+        hit_if(kind == 1 && value == MOST_FIRST_DAY + 1, READ_4_HEAD_NEXT);
+        hit_if(kind == 2 && value == MOST_FLOW + 1, READ_4_FLOW_NEXT);
+        hit_if(kind == 2 && value == MISSING, READ_4_FLOW_MARK);
+        break;
+    case 5:
+        hit(behind(READ_5_FLOW, by_kind));
+        break;
+    case 6:
+        hit(behind(READ_6_FLOW, by_kind));
+        break;
+    case 7:
+        hit(value < total ? READ_7_LOW : READ_7_HIGH);
+        break;
+    case 8:
+        hit(READ_8);
+        break;
+    default:
+        hit_if(total == 0, READ_NO_DAY);
+        hit_if(seen[2] > 0, READ_FLOWS);
+        hit_if(seen[3] > 0, READ_ONES);
+        hit_if(seen[4] > 0, READ_GAPS);
+        hit_if(outs->small[0] == MOST_FIRST_DAY, READ_LAST_FIRST);
+        hit_if(most_flows > 0, READ_MOST_FLOW);
+        hit_if(total == MOST_DAYS, READ_MOST_DAYS);
+        hit(total == c->days_len ? READ_FULL : READ_REST);
+    }
+}
+
+// ---- filters
+
+static size_t count_stretches(const struct test_case *c)
+{
+    size_t stretches = 0;
+    for (size_t t = 0; t < c->days_len; t++)
+        stretches += c->days[t] != MISSING && (t == 0 || c->days[t - 1] == MISSING);
+    return stretches;
+}
+
+static int any_at_flow(const struct test_case *c, const uint64_t *base)
+{
+    for (size_t t = 0; t < c->days_len; t++)
+        if (base[t] == 1000 * (uint64_t)c->days[t] && base[t] > 0)
+            return 1;
+    return 0;
+}
+
+static void count_parameters(const struct test_case *c)
+{
+    uint32_t least = c->method == 2 ? 3334 : 1;
+    if (c->p < least || c->p > 9999) {
+        hit(c->p < least ? FILTER_12_P_LOW : FILTER_12_P_HIGH);
+        hit_if(c->method == 2 && c->p == 3333, FILTER_12_P_3333);
+    } else if (c->method == 4 || c->method == 5) {
+        hit(c->q == 0 ? FILTER_12_Q_LOW : FILTER_12_Q_HIGH);
+    } else {
+        hit(FILTER_12_Q_GIVEN);
+    }
+}
+
+static void count_filter(const struct test_case *c, uint32_t answer, const uint64_t *base)
+{
+    switch (answer) {
+    case 11:
+        hit(FILTER_11);
+        break;
+    case 12:
+        count_parameters(c);
+        break;
+    case 13:
+        hit(c->passes == 0 ? FILTER_13_NONE : c->method == 1 ? FILTER_13_FOUR : FILTER_13_OTHER);
+        break;
+    case 9:
+        hit(FILTER_9);
+        break;
+    case 14:
+        hit(c->base_len < c->days_len ? FILTER_14_SHORT : FILTER_14_LONG);
+        break;
+    case 10:
+        hit(FILTER_10);
+        break;
+    default:
+        hit(c->method == 1 ? behind(FILTER_1_1, c->passes - 1) : behind(FILTER_2, c->method - 2));
+        hit_if(c->days_len == 0, FILTER_NO_DAY);
+        hit_if(c->days_len > 0 && count_stretches(c) == 0, FILTER_ALL_MISSING);
+        hit_if(count_stretches(c) > 1, FILTER_GAPS);
+        hit_if(any_at_flow(c, base), FILTER_CAPPED);
+        hit_if(c->days_len == MOST_DAYS, FILTER_MOST_DAYS);
+    }
+}
+
+static void count_step(const struct test_case *c, uint32_t answer)
+{
+    uint32_t has_yesterday = c->outs.small[0], flow = c->outs.small[1];
+    uint64_t base = c->outs.large[0];
+    switch (answer) {
+    case 11:
+        hit(STEP_11);
+        break;
+    case 12:
+        hit(STEP_12);
+        break;
+    case 15:
+        hit(flow > MOST_FLOW ? STEP_15_FLOW : STEP_15_BASE);
+        hit_if(flow <= MOST_FLOW && base == 1000 * (uint64_t)flow + 1, STEP_15_NEXT);
+        break;
+    case 10:
+        hit(STEP_10);
+        break;
+    default:
+        if (c->day == MISSING)
+            hit(has_yesterday == 0 ? STEP_MISSING_FRESH : STEP_MISSING_AFTER);
+        else
+            hit(behind(has_yesterday == 0 ? STEP_1_FRESH : STEP_1_AFTER, c->method - 1));
+        hit_if(has_yesterday == 0 && (flow > MOST_FLOW || base > 1000 * (uint64_t)flow), STEP_FRESH_UNREAD);
+        hit_if(has_yesterday > 1, STEP_OTHER_MARK);
+    }
+}
+
+// ---- the line
+
+struct turn_view {
+    size_t most, stretches, lines, ties, equals, dropped;
+};
+
+static size_t lowest_of(const struct test_case *c, size_t from, struct turn_view *view)
+{
+    size_t low = from;
+    for (size_t t = from + 1; t < from + c->block_days; t++) {
+        view->ties += c->days[t] == c->days[low];
+        low = c->days[t] < c->days[low] ? t : low;
+    }
+    return low;
+}
+
+// Turning points: the most in a stretch, in how many stretches there are some, and in how many a line.
+static struct turn_view view_turns(const struct test_case *c)
+{
+    struct turn_view view = {0};
+    size_t N = c->block_days;
+    for (size_t start = 0, end; start < c->days_len; start = end + 1) {
+        for (end = start; end < c->days_len && c->days[end] != MISSING;)
+            end++;
+        size_t turns = 0;
+        for (size_t at = start; at + 3 * N <= end; at += N) {
+            uint64_t left = 10000 * (uint64_t)c->days[lowest_of(c, at, &view)];
+            uint64_t middle = c->factor * (uint64_t)c->days[lowest_of(c, at + N, &view)];
+            uint64_t right = 10000 * (uint64_t)c->days[lowest_of(c, at + 2 * N, &view)];
+            turns += middle < left && middle < right;
+            view.equals += middle > 0 && (middle == left || middle == right);
+        }
+        view.most = turns > view.most ? turns : view.most;
+        view.stretches += turns > 0;
+        view.lines += turns > 1;
+        view.dropped += turns > 1 && (end - start) % N != 0;
+    }
+    return view;
+}
+
+static void count_line(const struct test_case *c, uint32_t answer, const uint64_t *base)
+{
+    struct turn_view view = {0};
+    if (answer == 0 || answer == 17)
+        view = view_turns(c);
+    switch (answer) {
+    case 16:
+        if (c->block_days < 1 || c->block_days > 30)
+            hit(c->block_days < 1 ? LINE_16_N_LOW : LINE_16_N_HIGH);
+        else
+            hit(c->factor < 1 ? LINE_16_G_LOW : LINE_16_G_HIGH);
+        break;
+    case 9:
+        hit(LINE_9);
+        break;
+    case 14:
+        hit(c->base_len < c->days_len ? LINE_14_SHORT : LINE_14_LONG);
+        break;
+    case 10:
+        hit(LINE_10);
+        break;
+    case 17:
+        hit(view.stretches == 0 ? LINE_17_NO_TURN : view.stretches == 1 ? LINE_17_ONE_TURN : LINE_17_APART);
+        break;
+    default:
+        hit(view.most == 2 ? LINE_ONE : LINE_MANY);
+        hit_if(view.lines > 1, LINE_STRETCHES);
+        hit_if(view.ties > 0, LINE_TIE);
+        hit_if(view.equals > 0, LINE_ALMOST);
+        hit_if(view.dropped > 0, LINE_DROPPED);
+        hit_if(any_at_flow(c, base), LINE_CAPPED);
+        hit_if(c->block_days == 1, LINE_N_1);
+        hit_if(c->block_days == 30, LINE_N_30);
+        hit_if(c->days_len == MOST_DAYS, LINE_MOST_DAYS);
+    }
+}
+
+// ---- totals
+
+static void count_totals(const struct test_case *c, uint32_t answer, const struct outs *outs)
+{
+    size_t t = 0;
+    switch (answer) {
+    case 9:
+        hit(TOTALS_9);
+        break;
+    case 14:
+        hit(c->base_len < c->days_len ? TOTALS_14_SHORT : TOTALS_14_LONG);
+        break;
+    case 10:
+        hit(TOTALS_10);
+        break;
+    case 20:
+        while (c->base[t] == NO_VALUE || (c->days[t] != MISSING && c->base[t] <= 1000 * (uint64_t)c->days[t]))
+            t++;
+        hit(c->days[t] == MISSING ? TOTALS_20_MISSING : TOTALS_20_ABOVE);
+        hit_if(c->days[t] != MISSING && c->base[t] == 1000 * (uint64_t)c->days[t] + 1, TOTALS_20_NEXT);
+        break;
+    case 21:
+        while (t < c->base_len && c->base[t] == NO_VALUE)
+            t++;
+        hit(t == c->base_len ? TOTALS_21_NO_VALUE : TOTALS_21_DRY);
+        break;
+    default:
+        hit(outs->small[0] == c->days_len ? TOTALS_ALL : TOTALS_SOME);
+        hit_if(outs->small[1] == 0, TOTALS_INDEX_0);
+        hit_if(outs->small[1] == 10000, TOTALS_INDEX_MOST);
+        hit_if(20 * outs->large[1] % (2 * outs->large[0]) == outs->large[0], TOTALS_HALF);
+        hit_if(c->days_len == MOST_DAYS, TOTALS_MOST_DAYS);
+    }
+}
+
+// ---- recession
+
+struct limb_view view_limbs(const struct test_case *c)
+{
+    struct limb_view view = {0};
+    for (size_t start = 0, end; start < c->days_len; start = end) {
+        for (end = start + 1; end < c->days_len && c->days[end] < c->days[end - 1] && c->days[start] != MISSING;)
+            end++;
+        size_t length = end - start;
+        if (length < 2)
+            continue;
+        view.counted += length >= c->limb_days;
+        view.exact += length == c->limb_days;
+        view.shorter += length < c->limb_days;
+        view.at_gap += end + 1 < c->days_len && c->days[end] == MISSING && c->days[end + 1] < c->days[end - 1];
+    }
+    return view;
+}
+
+static void count_recession(const struct test_case *c, uint32_t answer, const struct outs *outs)
+{
+    struct limb_view view = {0};
+    if (answer == 0 || answer == 19 || answer == 22)
+        view = view_limbs(c);
+    switch (answer) {
+    case 18:
+        hit(c->limb_days < 2 ? RECESSION_18_LOW : RECESSION_18_HIGH);
+        break;
+    case 9:
+        hit(RECESSION_9);
+        break;
+    case 10:
+        hit(RECESSION_10);
+        break;
+    case 19:
+        hit(view.shorter == 0 ? RECESSION_19_NO_LIMB : RECESSION_19_SHORT);
+        break;
+    case 22:
+        hit_if(c->limbs_len == 0, RECESSION_22_NONE);
+        hit_if(c->limbs_len == 2 * view.counted - 1, RECESSION_22_BY_ONE);
+        break;
+    default:
+        hit(outs->small[0] % 2 == 1 ? RECESSION_ODD : RECESSION_EVEN);
+        hit_if(view.counted > 1, RECESSION_LIMBS);
+        hit_if(view.exact > 0, RECESSION_EXACT);
+        hit_if(view.shorter > 0, RECESSION_PASSED);
+        hit_if(view.at_gap > 0, RECESSION_GAP);
+        hit_if(outs->small[1] == 0, RECESSION_RATIO_0);
+        hit_if(outs->small[1] == 10000, RECESSION_RATIO_MOST);
+        hit_if(c->limb_days == 2, RECESSION_L_2);
+        hit_if(c->limb_days == 60, RECESSION_L_60);
+        hit(c->limbs_len == 2 * view.counted ? RECESSION_FULL : RECESSION_REST);
+        hit_if(c->days_len == MOST_DAYS, RECESSION_MOST_DAYS);
+    }
+}
+
+void count_branch(const struct test_case *c, uint32_t answer, const struct outs *outs, const uint64_t *base)
+{
+    switch (c->call) {
+    case READ:
+        count_read(c, answer, outs);
+        break;
+    case FILTER:
+        count_filter(c, answer, base);
+        break;
+    case STEP:
+        count_step(c, answer);
+        break;
+    case STEPS:
+        hit(behind(STEPS_1, c->method - 1));
+        hit_if(c->days_len == MOST_DAYS, STEPS_MOST_DAYS);
+        break;
+    case LINE:
+        count_line(c, answer, base);
+        break;
+    case TOTALS:
+        count_totals(c, answer, outs);
+        break;
+    default:
+        count_recession(c, answer, outs);
+    }
+}

@@ -1,0 +1,364 @@
+// The generator of the differential runs. It aims at the edges of document 01: limits and their neighbours, marks,
+// ties, falls through gaps, full lists, lists of different lengths, and records damaged by cutting, flipping and
+// inserting.
+#include <string.h>
+
+#include "differential.h"
+#include "reference.h"
+
+static uint64_t state;
+
+// splitmix64
+static uint64_t draw(void)
+{
+    uint64_t z = (state += 0x9e3779b97f4a7c15u);
+    z = (z ^ (z >> 30)) * 0xbf58476d1ce4e5b9u;
+    z = (z ^ (z >> 27)) * 0x94d049bb133111ebu;
+    return z ^ (z >> 31);
+}
+
+static uint32_t below(uint32_t limit)
+{
+    return (uint32_t)((draw() >> 32) * limit >> 32);
+}
+
+static uint32_t between(uint32_t least, uint32_t most)
+{
+    return least + below(most - least + 1);
+}
+
+static int one_in(uint32_t n)
+{
+    return below(n) == 0;
+}
+
+#define AMONG(...) among((const uint32_t[]){__VA_ARGS__}, sizeof((const uint32_t[]){__VA_ARGS__}) / sizeof(uint32_t))
+static uint32_t among(const uint32_t *values, size_t count)
+{
+    return values[below((uint32_t)count)];
+}
+
+// Whether a case gets a certain cause to be refused. A rough case gets several, so that their order shows.
+static int rough;
+static int spoil(void)
+{
+    return one_in(rough ? 2 : 60);
+}
+
+// ---- day lists
+
+static size_t day_list_length(void)
+{
+    if (one_in(200))
+        return one_in(3) ? between(10000, MOST_DAYS + 20) : AMONG(MOST_DAYS - 1, MOST_DAYS, MOST_DAYS, MOST_DAYS + 1);
+    if (one_in(12))
+        return below(one_in(10) ? 4000 : 400);
+    return below(one_in(3) ? 8 : 40);
+}
+
+enum { TINY, SMALL, ANY, ENDS, RIVER, CONSTANT, SAW, STYLES };
+
+static uint32_t flow_of(uint32_t style, uint32_t before)
+{
+    switch (style) {
+    case TINY:
+        return below(4);
+    case SMALL:
+        return below(40);
+    case ANY:
+        return below(MOST_FLOW + 1);
+    case ENDS:
+        return AMONG(0, 0, 1, 2, MOST_FLOW - 1, MOST_FLOW, MOST_FLOW);
+    case RIVER: // storms and long recessions
+        if (one_in(30) || before == 0)
+            return between(1, one_in(4) ? MOST_FLOW : 5000);
+        return before - (before + 39) / 40;
+    case CONSTANT:
+        return before;
+    default: // a fall with ties and small rises
+        return before > 0 && below(4) != 0 ? before - below(2) - (before > 1) : before + below(30);
+    }
+}
+
+static void fill_days(struct test_case *c)
+{
+    uint32_t style = below(STYLES), gaps = below(6), flow = below(one_in(4) ? MOST_FLOW + 1 : 300);
+    c->days_len = day_list_length();
+    for (size_t t = 0, gap = 0; t < c->days_len; t++) {
+        if (gap == 0 && ((gaps == 1 && one_in(20)) || (gaps == 2 && one_in(3)) || (gaps == 3 && t == 0)))
+            gap = gaps == 2 ? 1 : 1 + below(4);
+        flow = flow_of(style, flow);
+        c->days[t] = gap > 0 ? MISSING : flow;
+        gap -= gap > 0;
+    }
+    if (gaps == 3 && c->days_len > 0)
+        c->days[c->days_len - 1] = MISSING;
+    if (gaps == 4 && one_in(20))
+        memset(c->days, 0xff, c->days_len * sizeof *c->days);
+    if (c->days_len > 0 && spoil())
+        c->days[one_in(3) ? c->days_len - 1 : below((uint32_t)c->days_len)] =
+            AMONG(MOST_FLOW + 1, MISSING - 1, MOST_FLOW + 2, 0x80000000, 0x7fffffff);
+}
+
+static size_t other_length(size_t length)
+{
+    size_t other = one_in(2) ? length + 1 + below(3) : length > 0 && one_in(2) ? length - 1 : below(40);
+    return other < ROOM_DAYS ? other : ROOM_DAYS;
+}
+
+// A base list that is only written: any content, of the day list's length or not.
+static void fill_base(struct test_case *c)
+{
+    c->base_len = spoil() ? other_length(c->days_len) : c->days_len;
+    for (size_t t = 0; t < c->base_len; t++)
+        c->base[t] = draw();
+}
+
+// ---- settings
+
+static void fill_setting(struct test_case *c)
+{
+    c->method = spoil() ? AMONG(0, 7, 8, MISSING, 0x80000001, 257) : between(1, 6);
+    uint32_t least = c->method == 2 ? 3334 : 1, most_q = c->method == 4 ? 10000 : 9999;
+    c->p = one_in(3) ? AMONG(least, 9999, 5000, 9250, 9998, least + 1) : between(least, 9999);
+    c->q = c->method != 4 && c->method != 5 ? 0 : one_in(3) ? AMONG(1, most_q, 5000, 8000) : between(1, most_q);
+    if (spoil())
+        c->p = AMONG(0, least - 1, 10000, 10001, MISSING);
+    else if (spoil())
+        c->q = c->q == 0 ? AMONG(1, 5000, MISSING) : AMONG(0, most_q + 1, 20000, MISSING);
+    c->passes = c->method == 1 ? between(1, 3) : 1;
+    if (spoil())
+        c->passes = c->method == 1 ? AMONG(0, 4, MISSING) : AMONG(0, 2, 3, 4);
+}
+
+static void make_filter(struct test_case *c)
+{
+    fill_setting(c);
+    fill_days(c);
+    fill_base(c);
+}
+
+static void make_step(struct test_case *c)
+{
+    fill_setting(c);
+    uint32_t style = below(CONSTANT), day = flow_of(style, below(5000)), flow = flow_of(style, day);
+    c->day = spoil() ? AMONG(MOST_FLOW + 1, MISSING - 1, 0x80000000) : one_in(8) ? MISSING : day;
+    c->outs.small[0] = one_in(3) ? 0 : one_in(4) ? (uint32_t)draw() : 1;
+    if (c->outs.small[0] == 0 && one_in(2))
+        return;
+    c->outs.small[1] = spoil() ? AMONG(MOST_FLOW + 1, MISSING, 0x80000000) : flow;
+    uint64_t whole = 1000 * (uint64_t)c->outs.small[1];
+    c->outs.large[0] = spoil() ? (one_in(2) ? whole + 1 : NO_VALUE)
+                       : one_in(4) ? whole
+                                   : ((draw() >> 32) * whole >> 32);
+}
+
+static void make_steps(struct test_case *c)
+{
+    rough = 0;
+    c->outs.small[0] = 0; // fresh, beside any flow and base
+    do
+        fill_setting(c);
+    while (reference_filter(c->method, c->p, c->q, 1, c->days, 0, c->base, 0) != 0);
+    do
+        fill_days(c);
+    while (reference_filter(c->method, c->p, c->q, 1, c->days, c->days_len, c->base, c->days_len) != 0);
+}
+
+static void make_line(struct test_case *c)
+{
+    c->block_days = spoil() ? AMONG(0, 31, 32, MISSING) : one_in(2) ? between(1, 3) : one_in(2) ? 5 : between(1, 30);
+    c->factor = spoil() ? AMONG(0, 10000, 10001, MISSING)
+                : one_in(2) ? AMONG(9000, 9999, 9998, 5000, 1, 2) : between(1, 9999);
+    fill_days(c);
+    fill_base(c);
+}
+
+static void make_totals(struct test_case *c)
+{
+    fill_days(c);
+    fill_base(c);
+    if (one_in(3)) // what a filter or the line gives
+        (void)(one_in(2) ? reference_filter(1, between(1, 9999), 0, 1, c->days, c->days_len, c->base, c->base_len)
+                         : reference_line(1, between(1, 9999), c->days, c->days_len, c->base, c->base_len));
+    uint32_t share = below(5);
+    for (size_t t = 0; t < c->base_len; t++) {
+        int present = t < c->days_len && c->days[t] != MISSING;
+        uint64_t whole = present ? 1000 * (uint64_t)c->days[t] : 0;
+        if (c->base[t] > whole)
+            c->base[t] = !present || (share > 2 && one_in(3)) ? NO_VALUE
+                         : share == 0                         ? 0
+                         : share == 1                         ? whole
+                                                              : ((draw() >> 32) * whole >> 32);
+    }
+    if (share == 4 && one_in(10))
+        memset(c->base, 0xff, c->base_len * sizeof *c->base);
+    if (c->base_len > 0 && spoil()) {
+        size_t t = below((uint32_t)c->base_len);
+        uint64_t whole = t < c->days_len && c->days[t] != MISSING ? 1000 * (uint64_t)c->days[t] : 0;
+        c->base[t] = one_in(2) ? whole + 1 : one_in(2) ? whole : NO_VALUE - 1;
+    }
+}
+
+static void make_recession(struct test_case *c)
+{
+    c->limb_days = spoil() ? AMONG(0, 1, 61, 62, MISSING) : one_in(8) ? between(2, 60) : between(2, 5);
+    if (one_in(40))
+        c->limb_days = 60;
+    fill_days(c);
+    size_t enough = 2 * view_limbs(c).counted;
+    c->limbs_len = one_in(3) ? enough : one_in(2) ? enough + below(4) : one_in(2) ? below(40) : c->days_len;
+    if (spoil() && enough > 0)
+        c->limbs_len = one_in(2) ? enough - 1 : below((uint32_t)enough);
+    c->limbs_len = c->limbs_len < ROOM_DAYS ? c->limbs_len : ROOM_DAYS;
+    for (size_t i = 0; i < c->limbs_len; i++)
+        c->limbs[i] = (uint32_t)draw();
+}
+
+// ---- records
+
+static void put(struct test_case *c, uint8_t kind, uint32_t value, size_t body)
+{
+    c->bytes[c->bytes_len++] = kind;
+    for (size_t i = 0; i < body; i++)
+        c->bytes[c->bytes_len++] = (uint8_t)(value >> 8 * i);
+}
+
+static uint32_t put_entry(struct test_case *c, uint32_t style)
+{
+    if (one_in(style == 0 ? 100 : 3)) {
+        if (one_in(2)) {
+            put(c, 3, 0, 0);
+            return 1;
+        }
+        uint32_t count = one_in(50) ? AMONG(0xff, 0x100, 0x101) : between(1, 5);
+        put(c, 4, count, 2);
+        return count;
+    }
+    put(c, 2, flow_of(between(TINY, ENDS), 0), 4);
+    return 1;
+}
+
+static size_t a_place(const struct test_case *c)
+{
+    return below((uint32_t)c->bytes_len + 1);
+}
+
+static void cut_out(struct test_case *c, size_t at, size_t count)
+{
+    memmove(c->bytes + at, c->bytes + at + count, c->bytes_len - at - count);
+    c->bytes_len -= count;
+}
+
+static void insert(struct test_case *c, size_t at, size_t count)
+{
+    memmove(c->bytes + at + count, c->bytes + at, c->bytes_len - at);
+    c->bytes_len += count;
+    for (size_t i = at; i < at + count; i++)
+        c->bytes[i] = (uint8_t)(one_in(2) ? draw() : AMONG(0, 1, 2, 3, 4, 9, 0xff));
+}
+
+// Writes a value to the body of the first entry of a kind, as far as it goes; `kind` in any place will do.
+static void overwrite(struct test_case *c, uint8_t kind, uint32_t value, size_t body)
+{
+    uint8_t *found = memchr(c->bytes, kind, c->bytes_len);
+    for (size_t i = 1; found != NULL && i <= body && found + i < c->bytes + c->bytes_len; i++, value >>= 8)
+        found[i] = (uint8_t)value;
+}
+
+static void damage(struct test_case *c, uint32_t total)
+{
+    size_t at = a_place(c), left = c->bytes_len - at;
+    switch (below(11)) {
+    case 0:
+        c->bytes_len = at;
+        break;
+    case 1:
+        c->bytes_len -= c->bytes_len > 0;
+        break;
+    case 2:
+        if (left > 0)
+            c->bytes[at] ^= (uint8_t)(1u << below(8));
+        break;
+    case 3:
+        if (left > 0)
+            c->bytes[at] = (uint8_t)(one_in(2) ? draw() : AMONG(0, 1, 2, 3, 4, 5, 8, 9, 10, 0xff));
+        break;
+    case 4:
+        insert(c, at, between(1, 5));
+        break;
+    case 5:
+        cut_out(c, at, left < 5 ? left : between(1, 5));
+        break;
+    case 6:
+        insert(c, c->bytes_len, between(1, 3));
+        break;
+    case 7:
+        overwrite(c, 1, AMONG(MOST_FIRST_DAY, MOST_FIRST_DAY + 1, MISSING), 4);
+        break;
+    case 8:
+        overwrite(c, 2, AMONG(MOST_FLOW, MOST_FLOW + 1, MISSING, MISSING - 1), 4);
+        break;
+    case 9:
+        overwrite(c, 4, AMONG(0, 1, 65535, MOST_DAYS), 2);
+        break;
+    default:
+        if (c->bytes_len >= 5) { // the end's count
+            c->bytes_len -= 5;
+            put(c, 9, AMONG(total + 1, total - 1, total + 65536, MISSING, 0), 4);
+        }
+    }
+}
+
+static void make_read(struct test_case *c)
+{
+    uint32_t total = 0, style = below(3);
+    put(c, 1, one_in(3) ? AMONG(0, 1, MOST_FIRST_DAY) : below(MOST_FIRST_DAY + 1), 4);
+    size_t entries = one_in(3000) ? MOST_DAYS - below(3) : one_in(20) ? below(300) : below(12);
+    for (size_t i = 0; i < entries && total <= MOST_DAYS; i++)
+        total += put_entry(c, style);
+    if (one_in(150) && total < MOST_DAYS) { // up to the limit, and a little over it
+        uint32_t rest = MOST_DAYS - 1 - total + below(3);
+        put(c, 4, rest, 2);
+        total += rest;
+        while (one_in(2) && total <= MOST_DAYS)
+            total += put_entry(c, style);
+    }
+    put(c, 9, total, 4);
+
+    if (one_in(2))
+        do
+            damage(c, total);
+        while (one_in(3));
+    c->days_len = total;
+    if (one_in(4))
+        c->days_len = one_in(3) ? below(total + 1) : one_in(2) && total > 0 ? total - 1 : total + below(6);
+    c->days_len = c->days_len < ROOM_DAYS ? c->days_len : ROOM_DAYS;
+    for (size_t t = 0; t < c->days_len; t++)
+        c->days[t] = (uint32_t)draw();
+}
+
+void generate(struct test_case *c, uint64_t seed, uint64_t number)
+{
+    static void (*const make[CALLS])(struct test_case *) = {
+        [READ] = make_read,     [FILTER] = make_filter, [STEP] = make_step,           [STEPS] = make_steps,
+        [LINE] = make_line,     [TOTALS] = make_totals, [RECESSION] = make_recession,
+    };
+    state = seed << 40 ^ number;
+    state = draw();
+    c->bytes_len = c->days_len = c->base_len = c->limbs_len = 0;
+    for (size_t i = 0; i < 4; i++) {
+        c->outs.small[i] = (uint32_t)draw();
+        c->outs.large[i] = draw();
+    }
+    rough = one_in(5);
+    uint32_t turn = below(20);
+    c->call = turn < 6    ? READ
+              : turn < 10 ? FILTER
+              : turn < 12 ? STEP
+              : turn < 13 ? STEPS
+              : turn < 15 ? LINE
+              : turn < 17 ? TOTALS
+                          : RECESSION;
+    make[c->call](c);
+}

@@ -1,0 +1,60 @@
+"""Faults for tests/differential to find: edits of tests/reference.c, each of which makes a wrong engine.
+
+A fault is a name, what stands in the file, and what takes its place where it first stands. Any white space of the first
+matches any of the file's.
+"""
+import re
+
+DAYS_TEST = "if (!are_days(days, days_len)) return 10;"
+LENGTHS_TEST = "if (base_len != days_len) return 14;"
+COUNT_TEST = "if (four_bytes(body) != count) return 7;"
+REST_TEST = "if (left > 4) return 8;"
+TOTAL_TEST = "if (count > MOST_DAYS) return 5;"
+ROOM_TEST = "if (count > days_len) return 6;"
+BACKWARD = "if (passes >= 2) later_pass(&w, base + t - 1, t - start, -1);"
+SUM = "w->a * f + w->b * u + w->c * u_before"
+
+FAULTS = (
+    ("halves go down", "(a + b / 2) / b", "(a + (b - 1) / 2) / b"),
+    ("A / d is rounded before multiplying", f"near({SUM}, w->d)",
+     "w->a * 10000 / w->d * f / 10000 + near(w->b * u + w->c * u_before, w->d)"),
+    ("only the written base is held to the flow", "f = next(&w, f, u, u_before); base[t] = f;",
+     "f = near(w.a * f + w.b * u + w.c * u_before, w.d); base[t] = smaller(u, f);"),
+    ("a filter carries base over a gap", "f = first(method, q, days[t]);",
+     "f = t > 1 && days[t - 2] != MISSING ? base[t - 2] : first(method, q, days[t]);"),
+    ("a step carries yesterday over a gap", "*has_yesterday = 0;", ";"),
+    ("a step tests a fresh state", "*has_yesterday != 0 && (*flow", "(*flow"),
+    ("pass 2 over the flow", BACKWARD,
+     f"for (size_t i = start; i < t && passes > 1; i++) base[i] = 1000 * (uint64_t)days[i]; {BACKWARD}"),
+    ("passes 2 and 3 are copies", f"{BACKWARD} if (passes == 3)", "if (passes == 4)"),
+    ("method 2 takes p 3333", "3334", "3333"),
+    ("10 before 14", f"{LENGTHS_TEST} {DAYS_TEST}", f"{DAYS_TEST} {LENGTHS_TEST}"),
+    ("a filter takes 36,526 days", "days_len > MOST_DAYS) return 9;", "days_len > MOST_DAYS + 1) return 9;"),
+    ("reading takes flow 10,000,001", "four_bytes(body) > MOST_FLOW", "four_bytes(body) > MOST_FLOW + 1"),
+    ("8 before 7", f"{COUNT_TEST} {REST_TEST}", f"{REST_TEST} {COUNT_TEST}"),
+    ("6 before 5", f"{TOTAL_TEST} {ROOM_TEST}", f"{ROOM_TEST} {TOTAL_TEST}"),
+    ("reading goes a byte too far", "if (left < 4)", "if (left < 3)"),
+    ("a day count is written on a refusal", "if (refusal != 0) return refusal; const uint8_t *at",
+     "*day_count = 0; if (refusal != 0) return refusal; const uint8_t *at"),
+    ("the latest of equal minima", "days[t] < days[low]", "days[t] <= days[low]"),
+    ("a turning point at equality", "factor * middle < 10000 * left", "factor * middle <= 10000 * left"),
+    ("an incomplete block is kept", "(end - t) / block_days;", "(end - t + block_days - 1) / block_days;"),
+    ("a write before 17", "if (done == 0) return 17;",
+     "if (days_len > 0 && done == 0) base[0] = NO_VALUE; if (done == 0) return 17;"),
+    ("a value too many is written", "while (done < days_len)", "while (done <= days_len)"),
+    ("the index is cut off", "near(10 * T, Y)", "(10 * T / Y)"),
+    ("base equal to flow is refused", "|| base[t] > 1000", "|| base[t] >= 1000"),
+    ("equal days fall", "days[at] < days[at - 1]", "days[at] <= days[at - 1]"),
+    ("the upper of two middle ratios", "(k + 1) / 2", "(k / 2 + 1)"),
+    ("a limb's number of days is one short", "*limbs++ = (uint32_t)(end - start);",
+     "*limbs++ = (uint32_t)(end - start - 1);"),
+    ("k is written before 22", "if (limbs_len < 2 * limb_count)", "*ratio_count = k; if (limbs_len < 2 * limb_count)"),
+)
+
+
+def planted(source, fault):
+    """The source with the fault."""
+    name, old, new = fault
+    edited, count = re.subn(r"\s+".join(map(re.escape, old.split())), lambda _: new, source, count=1)
+    assert count == 1, f"there is no place to plant '{name}'"
+    return edited
