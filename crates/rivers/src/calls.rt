@@ -1,0 +1,141 @@
+// Each call over a river, with its answer and the lists that it leaves printed.
+use crate::show;
+use filter::DailyFilter;
+use filter::Setting;
+use filter::Step;
+use minima::LineSetting;
+
+pub fn reading(bytes: &[u8], days: &mut [u32]) {
+    show::text(b"read");
+    show::number(bytes.len() as u64);
+    let answer = record::read(bytes, days);
+    match answer {
+        record::Answer::Refused(refusal) => {
+            show::refusal(refusal);
+        }
+        record::Answer::Stated {
+            first_day,
+            day_count,
+        } => {
+            show::text(b": stated");
+            show::number(first_day as u64);
+            show::number(day_count as u64);
+        }
+    }
+    show::day_list(days);
+    show::end_of_line();
+}
+
+pub fn totals(days: &[u32], base: &[u64]) {
+    show::text(b"totals");
+    let answer = totals::total(days, base);
+    match answer {
+        totals::Answer::Refused(refusal) => {
+            show::refusal(refusal);
+        }
+        totals::Answer::Summed(t) => {
+            show::text(b": summed");
+            show::number(t.days as u64);
+            show::number(t.flow);
+            show::number(t.base);
+            show::number(t.quick);
+            show::number(t.index as u64);
+        }
+    }
+    show::end_of_line();
+}
+
+pub fn filter(method: u32, p: u32, q: u32, passes: u32, days: &[u32], base: &mut [u64]) {
+    show::text(b"filter");
+    show::number(method as u64);
+    show::number(p as u64);
+    show::number(q as u64);
+    show::number(passes as u64);
+    let setting = Setting { method, p, q };
+    let verdict = filter::filter(setting, passes, days, base);
+    show::verdict(verdict);
+    show::base_list(base);
+    show::end_of_line();
+}
+
+pub fn filter_and_totals(method: u32, p: u32, q: u32, passes: u32, days: &[u32], base: &mut [u64]) {
+    filter(method, p, q, passes, days, base);
+    totals(days, base);
+}
+
+pub fn line(block_days: u32, factor: u32, days: &[u32], base: &mut [u64]) {
+    show::text(b"line");
+    show::number(block_days as u64);
+    show::number(factor as u64);
+    let setting = LineSetting { block_days, factor };
+    let verdict = minima::line(setting, days, base);
+    show::verdict(verdict);
+    show::base_list(base);
+    show::end_of_line();
+}
+
+pub fn line_and_totals(block_days: u32, factor: u32, days: &[u32], base: &mut [u64]) {
+    line(block_days, factor, days, base);
+    totals(days, base);
+}
+
+pub fn ratios(limb_days: u32, days: &[u32], limbs: &mut [u32]) {
+    show::text(b"ratios");
+    show::number(limb_days as u64);
+    let answer = recession::ratios(limb_days, days, limbs);
+    match answer {
+        recession::Answer::Refused(refusal) => {
+            show::refusal(refusal);
+        }
+        recession::Answer::Ratios { count, median } => {
+            show::text(b": found");
+            show::number(count as u64);
+            show::number(median as u64);
+        }
+    }
+    show::limb_list(limbs);
+    show::end_of_line();
+}
+
+// One step; a refusal is printed.
+pub fn step(state: DailyFilter, setting: Setting, day: u32) -> Step {
+    let step = state.step(setting, day);
+    if let Step::Refused { refusal, state: _ } = step {
+        show::text(b"step");
+        show::refusal(refusal);
+        show::end_of_line();
+    }
+    step
+}
+
+// A check sum with the value of one step more.
+fn stepped(sum: u64, step: Step) -> u64 {
+    match step {
+        Step::Next { state: _, base } => show::mixed(sum, base),
+        Step::Refused { .. } => sum,
+    }
+}
+
+fn state_after(step: Step) -> DailyFilter {
+    match step {
+        Step::Next { state, base: _ } => state,
+        Step::Refused { refusal: _, state } => state,
+    }
+}
+
+// Steps over a river from the fresh state: the check sum of their values is that of pass 1.
+pub fn steps(method: u32, p: u32, q: u32, days: &[u32]) {
+    let mut state = DailyFilter::fresh();
+    let mut sum = 0;
+    let mut i = 0;
+    while i < days.len() {
+        let next = step(state, Setting { method, p, q }, days[i]);
+        sum = stepped(sum, next);
+        state = state_after(next);
+        i += 1;
+    }
+    show::text(b"steps");
+    show::number(method as u64);
+    show::number(sum);
+    show::end_of_line();
+}

@@ -1,0 +1,94 @@
+// Runs longer and published rivers through the calls and prints what they give: check sums and selected days. The file
+// stdout holds what tests/rivers.py works out from document 01 alone.
+mod calls;
+mod published;
+mod record_of;
+mod refusals;
+mod river;
+mod show;
+
+fn passes(days: &[u32], base: &mut [u64]) {
+    calls::filter_and_totals(1, 9250, 0, 1, days, base);
+    calls::filter_and_totals(1, 9250, 0, 2, days, base);
+    calls::filter_and_totals(1, 9250, 0, 3, days, base);
+}
+
+fn other_methods(days: &[u32], base: &mut [u64]) {
+    calls::filter_and_totals(2, 9500, 0, 1, days, base);
+    calls::filter_and_totals(3, 9250, 0, 1, days, base);
+    calls::filter_and_totals(4, 9780, 500, 1, days, base);
+    calls::filter_and_totals(5, 9780, 8000, 1, days, base);
+    calls::filter_and_totals(6, 9250, 0, 1, days, base);
+}
+
+fn lines(days: &[u32], base: &mut [u64]) {
+    calls::line_and_totals(1, 9000, days, base);
+    calls::line_and_totals(5, 9000, days, base);
+    calls::line_and_totals(5, 9999, days, base);
+    calls::line_and_totals(7, 1, days, base);
+    calls::line_and_totals(30, 9500, days, base);
+}
+
+fn limbs(limb_days: u32, days: &[u32]) {
+    let mut limbs = [0u32; 8192];
+    calls::ratios(limb_days, days, &mut limbs);
+}
+
+fn all_limbs(days: &[u32]) {
+    limbs(2, days);
+    limbs(5, days);
+    limbs(10, days);
+    limbs(60, days);
+}
+
+// Thirty years of days through every method and number of passes, the daily step, the line and the ratios.
+fn thirty_years(seed: u32, gaps: u32) {
+    let mut days = [0u32; 10957];
+    let mut base = [0u64; 10957];
+    river::fill(&mut days, seed, gaps);
+    show::text(b"thirty years");
+    show::number(gaps as u64);
+    show::day_list(&days);
+    show::end_of_line();
+    passes(&days, &mut base);
+    other_methods(&days, &mut base);
+    calls::steps(1, 9250, 0, &days);
+    calls::steps(5, 9780, 8000, &days);
+    lines(&days, &mut base);
+    all_limbs(&days);
+}
+
+// Writes the record of a day list and reads it back into the same list.
+fn read_back(bytes: &mut [u8], days: &mut [u32]) {
+    let size = record_of::write(bytes, 99_999, days, 36_525);
+    if size <= bytes.len() {
+        calls::reading(&bytes[..size], days);
+    }
+}
+
+// A full record, of 36,525 days.
+fn full_record() {
+    let mut days = [0u32; 36525];
+    let mut base = [0u64; 36525];
+    let mut bytes = [0u8; 182635];
+    river::fill(&mut days, 7, river::GAPS_EVERYWHERE);
+    read_back(&mut bytes, &mut days);
+    calls::filter_and_totals(1, 9250, 0, 3, &days, &mut base);
+    calls::line_and_totals(5, 9000, &days, &mut base);
+}
+
+fn main() {
+    thirty_years(1, river::NO_GAPS);
+    thirty_years(2, river::GAP_AT_START);
+    thirty_years(3, river::GAP_AT_END);
+    thirty_years(4, river::GAPS_EVERYWHERE);
+    full_record();
+    refusals::of_reading();
+    refusals::of_settings();
+    refusals::of_lists();
+    refusals::of_steps();
+    refusals::of_values();
+    published::recession_constants();
+    published::base_flow_indices();
+    published::minima_line();
+}

@@ -1,0 +1,74 @@
+// Every refusal of document 01's table at least once.
+use crate::calls;
+use filter::DailyFilter;
+use filter::Setting;
+use filter::Yesterday;
+
+// 1 to 8, and the record of zero days, which passes.
+pub fn of_reading() {
+    let mut days = [7u32; 2];
+    calls::reading(&[1, 0, 0, 0, 0, 9, 0, 0, 0, 0], &mut days);
+    calls::reading(&[1, 0, 0], &mut days);
+    calls::reading(&[5], &mut days);
+    calls::reading(&[2, 1, 0, 0, 0], &mut days);
+    calls::reading(&[1, 160, 134, 1, 0], &mut days);
+    calls::reading(&[1, 0, 0, 0, 0, 4, 174, 142], &mut days);
+    calls::reading(&[1, 0, 0, 0, 0, 3, 3, 3], &mut days);
+    calls::reading(&[1, 0, 0, 0, 0, 9, 1, 0, 0, 0], &mut days);
+    calls::reading(&[1, 0, 0, 0, 0, 9, 0, 0, 0, 0, 0], &mut days);
+}
+
+// 11, 12, 13, 16, 18, and method 2's least p, which passes.
+pub fn of_settings() {
+    let days = [100u32, 200];
+    let mut base = [7u64; 2];
+    let mut limbs = [7u32; 2];
+    calls::filter(7, 9250, 0, 1, &days, &mut base);
+    calls::filter(2, 3333, 0, 1, &days, &mut base);
+    calls::filter(2, 9250, 0, 2, &days, &mut base);
+    calls::filter(2, 3334, 0, 1, &days, &mut base);
+    calls::line(31, 9000, &days, &mut base);
+    calls::line(5, 10_000, &days, &mut base);
+    calls::ratios(1, &days, &mut limbs);
+    calls::ratios(61, &days, &mut limbs);
+}
+
+// 9, 14, 10.
+pub fn of_lists() {
+    let long = [1u32; 36526];
+    let days = [100u32, 10_000_001];
+    let mut base = [7u64; 2];
+    let mut short = [7u64; 1];
+    calls::filter(1, 9250, 0, 1, &long, &mut base);
+    calls::filter(1, 9250, 0, 1, &days, &mut short);
+    calls::filter(1, 9250, 0, 1, &days, &mut base);
+    calls::line(5, 9000, &days, &mut base);
+    calls::totals(&days, &base);
+}
+
+fn step_after(flow: u32, base: u64, method: u32, p: u32, day: u32) {
+    let state = DailyFilter {
+        yesterday: Yesterday::Known { flow, base },
+    };
+    calls::step(state, Setting { method, p, q: 0 }, day);
+}
+
+// 11, 12, 15, 10.
+pub fn of_steps() {
+    step_after(5, 5001, 0, 0, 10_000_001);
+    step_after(5, 5001, 1, 0, 10_000_001);
+    step_after(5, 5001, 1, 9250, 10_000_001);
+    step_after(5, 5000, 1, 9250, 10_000_001);
+}
+
+// 17, 19, 20, 21, 22.
+pub fn of_values() {
+    let days = [0u32, 100, 90, 81];
+    let mut base = [series::NO_VALUE; 4];
+    let mut limbs = [7u32; 1];
+    calls::line(1, 9000, &days, &mut base);
+    calls::ratios(4, &days, &mut limbs);
+    calls::ratios(3, &days, &mut limbs);
+    calls::totals(&days, &base);
+    calls::totals(&days, &[0, 0, 90_001, 0]);
+}

@@ -1,0 +1,104 @@
+// Rivers made for the tests. tests/rivers.py makes the same ones.
+// What a made river goes by: the number that its weather is drawn from, and the water in its ground.
+struct Weather {
+    drawn: u32,
+    store: u32,
+}
+
+// Where days are missing.
+pub const NO_GAPS: u32 = 0;
+
+pub const GAP_AT_START: u32 = 1;
+
+pub const GAP_AT_END: u32 = 2;
+
+pub const GAPS_EVERYWHERE: u32 = 3;
+
+fn draw(x: u32) -> u32 {
+    (((x as u64) * 1_664_525 + 1_013_904_223) % 4_294_967_296) as u32
+}
+
+// The day after: a sixteenth of the store runs off, and it rains on one day in ten.
+fn day_after(weather: Weather) -> Weather {
+    let drawn = draw(weather.drawn);
+    let left = weather.store - weather.store / 16;
+    if drawn < 429_496_730 {
+        if left < 100_000_000 {
+            return Weather {
+                drawn,
+                store: left + drawn / 64,
+            };
+        }
+    }
+    Weather { drawn, store: left }
+}
+
+fn is_gap(gaps: u32, i: usize, days: usize, drawn: u32) -> bool {
+    if gaps == GAP_AT_START {
+        return i < 100;
+    }
+    if gaps == GAP_AT_END {
+        return days <= 100 || days - 100 <= i;
+    }
+    if gaps == GAPS_EVERYWHERE {
+        return drawn % 13 == 0;
+    }
+    false
+}
+
+fn day_of(weather: Weather, missing: bool) -> u32 {
+    if missing {
+        return series::MISSING;
+    }
+    weather.store / 16
+}
+
+// Fills a day list with the days of a made river.
+pub fn fill(days: &mut [u32], seed: u32, gaps: u32) {
+    let mut weather = Weather {
+        drawn: seed,
+        store: 4_000_000,
+    };
+    let count = days.len();
+    let mut i = 0;
+    while i < days.len() {
+        weather = day_after(weather);
+        days[i] = day_of(weather, is_gap(gaps, i, count, weather.drawn));
+        i += 1;
+    }
+}
+
+// A part of a flow, in ten-thousandths.
+fn part(flow: u32, share: u32) -> u32 {
+    ((numbers::near((flow as u64) * (share as u64), 10_000)) % 4_294_967_296) as u32
+}
+
+// Fills a day list with a river that falls by a published recession constant, in ten-thousandths.
+pub fn fall(days: &mut [u32], constant: u32) {
+    let mut flow = 10_000_000;
+    let mut i = 0;
+    while i < days.len() {
+        days[i] = flow;
+        flow = part(flow, constant);
+        i += 1;
+    }
+}
+
+fn storm_or(flow: u32, i: usize, apart: usize, storm: u32) -> u32 {
+    if apart == 0 {
+        return flow;
+    }
+    if i % apart == 0 {
+        return storm;
+    }
+    flow
+}
+
+// Fills a day list with the same flow on every day, and a storm on every `apart`th, where `apart` is not 0.
+pub fn steady(days: &mut [u32], flow: u32, apart: usize, storm: u32) {
+    let mut i = 0;
+    while i < days.len() {
+        days[i] = storm_or(flow, i, apart, storm);
+        i += 1;
+    }
+}

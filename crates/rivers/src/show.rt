@@ -1,0 +1,111 @@
+// What the calls give, as text: check sums and selected days.
+use libc::STDOUT_FILENO;
+use series::Verdict;
+ghost use Prim.Native.Nat.{_<_};
+
+const MODULUS: u64 = 1_000_000_007;
+
+pub fn text(words: &[u8]) {
+    io::write_all(STDOUT_FILENO, words);
+}
+
+pub fn number(n: u64) {
+    io::write_all(STDOUT_FILENO, b" ");
+    io::print_decimal(STDOUT_FILENO, n);
+}
+
+pub fn end_of_line() {
+    io::write_all(STDOUT_FILENO, b"\n");
+}
+
+// A check sum with one number more.
+pub fn mixed(sum: u64, n: u64) -> u64
+    ensures { λ r. ⌜ r < 1000000007 ⌝ }
+{
+    ((sum % MODULUS) * 31 + n % MODULUS + 1) % MODULUS
+}
+
+fn wide(n: u32) -> u64 {
+    n as u64
+}
+
+fn base_sum(base: &[u64]) -> u64 {
+    let mut sum = 0;
+    let mut i = 0;
+    while i < base.len() {
+        sum = mixed(sum, base[i]);
+        i += 1;
+    }
+    sum
+}
+
+fn day_sum(days: &[u32]) -> u64 {
+    let mut sum = 0;
+    let mut i = 0;
+    while i < days.len() {
+        sum = mixed(sum, wide(days[i]));
+        i += 1;
+    }
+    sum
+}
+
+// A sum with the limb that starts at i, if one does.
+fn with_limb(sum: u64, limbs: &[u32], i: usize) -> u64 {
+    if i % 2 == 0 {
+        if i < limbs.len() {
+            let second = i + 1;
+            if second < limbs.len() {
+                return (sum % MODULUS + mixed(wide(limbs[i]), wide(limbs[second]))) % MODULUS;
+            }
+        }
+    }
+    sum
+}
+
+// A check sum of the limbs that is the same for each order of them.
+fn limb_sum(limbs: &[u32]) -> u64 {
+    let mut sum = 0;
+    let mut i = 0;
+    while i < limbs.len() {
+        sum = with_limb(sum, limbs, i);
+        i += 1;
+    }
+    sum
+}
+
+// A base list: its check sum, and its values on the first, the middle and the last day.
+pub fn base_list(base: &[u64]) {
+    text(b", base");
+    number(base_sum(base));
+    if base.len() > 0 {
+        number(base[0]);
+        number(base[base.len() / 2]);
+        number(base[base.len() - 1]);
+    }
+}
+
+pub fn day_list(days: &[u32]) {
+    text(b", days");
+    number(day_sum(days));
+}
+
+pub fn limb_list(limbs: &[u32]) {
+    text(b", limbs");
+    number(limb_sum(limbs));
+}
+
+pub fn refusal(refusal: series::Refusal) {
+    text(b": refused");
+    number(refusal.number() as u64);
+}
+
+pub fn verdict(verdict: Verdict) {
+    match verdict {
+        Verdict::Accepted => {
+            text(b": accepted");
+        }
+        Verdict::Refused(cause) => {
+            refusal(cause);
+        }
+    }
+}
