@@ -5,7 +5,6 @@ use minima::LineSetting;
 use series::Refusal;
 use series::Verdict;
 ghost use mathlib.Core.Path.{_≡_};
-ghost use Prim.Native.Nat.{min};
 ghost use lib.ListN.{length};
 ghost use Rattle.series.specs.Causes.{refusalOf, firstCause};
 ghost use Rattle.record.specs.Reading.{reading};
@@ -73,7 +72,7 @@ fn over_days(
     ensures { λ r. ⌜ separationOf r ≡ overDays choice «first_day» (now (days .entry)) (now (base .entry)) ⌝ }
     ensures { λ _. ⌜ now (base .exit) ≡ baseAfter choice (now (days .entry)) (now (base .entry)) ⌝ }
 {
-    let n = least(days.len(), base.len());
+    let n = numbers::least(days.len(), base.len());
     let verdict = base_flow(choice, days, &mut base[..n]);
     if let Verdict::Refused(refusal) = verdict {
         return Separation::Refused {
@@ -98,10 +97,4 @@ fn base_flow(choice: Choice, days: &[u32], base: &mut [u64]) -> Verdict
         Choice::Filter { setting, passes } => filter::filter(setting, passes, days, base),
         Choice::Line(setting) => minima::line(setting, days, base),
     }
-}
-
-fn least(a: usize, b: usize) -> usize
-    ensures { λ r. ⌜ r ≡ min a b ⌝ }
-{
-    if a < b { a } else { b }
 }

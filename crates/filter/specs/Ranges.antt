@@ -1,5 +1,5 @@
 -- What the private functions ask of their arguments, so that no sum overflows. No public promise speaks of these.
-use Prim.Native.Nat.{ℕ, _≤_}
+use Prim.Native.Nat.{ℕ, _≤_, _<_}
 use mathlib.Core.Path.{_≡_}
 use mathlib.Core.Bool.{false}
 use mathlib.Core.Logic.{_⊎_}
@@ -25,6 +25,8 @@ pub record Moderate (w : Weights) : Type 0 where
   pub a : w .A ≤ 100000000
   pub b : w .B ≤ 100000000
   pub c : w .C ≤ 100000000
+  pub d : w .d ≤ 100000000
+  pub above : 0 < w .d
 
 -- at most the largest flow, in thousandths
 abbrev pub Small : ℕ → Type 0

@@ -147,6 +147,6 @@ pub fn smoothed(w: Coefficients, f: u64, u: u64, v: u64) -> u64
     requires { ⌜ (Small f × Small u × Small v) ⌝ }
     ensures { λ r. ⌜ r ≡ step rounded (weightsOf w) f u v ⌝ }
 {
-    let rounded = numbers::near(w.a * f + w.b * u + w.c * v, w.d);
+    let rounded = numbers::near_small(w.a * f + w.b * u + w.c * v, w.d);
     if u < rounded { u } else { rounded }
 }

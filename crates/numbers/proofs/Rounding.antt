@@ -80,3 +80,7 @@ near-up a b p h =
 
 pub up-fits : (a b : ℕ) → 0 < b → b - a % b ≤ a % b → a / b + 1 ≤ a
 up-fits a b p h = omega (arith, div-add-mod' a b, mod-lt a p, mul-le-mul-left (a / b) p)
+
+pub near-halved : (a b : ℕ) → 0 < b → near a b ≡ (a + b / 2) / b
+near-halved a b p =
+    near-is a b ((a + b / 2) / b) p (omega (arith, div-mul-le-self (a + b / 2) b)) (omega (arith, lt-div-mul-add {a = a + b / 2} {b = b} p))

@@ -1,21 +1,22 @@
--- `series::any_invalid_day` meets its contract: the days before i are valid, so the cause holds of the list where it holds of the
--- days from i on.
+-- `series::any_invalid_day` meets its contract: the cause holds of the list where it was found up to i, or holds of the days
+-- from i on.
 -- Assumes nothing.
 use Prim.Native.Nat.{_-_}
+use mathlib.Core.Bool.{_||_}
 use mathlib.Core.Path.{_≡_, refl}
 use native.Mathlib.Omega.{arith}
 use lib.ListN.{length, drop}
 use denote.Ref.{now}
 use Rattle.series.specs.Lists.{anyInvalidDay}
-use Rattle.series.proofs.Tests.{invalid-day, valid-day, all-valid}
+use Rattle.series.proofs.Tests.{day-looked-at, days-looked-at}
 use Rattle.series.proofs.any_invalid_day.Statement.{statement}
 use Rattle.series.proofs.any_invalid_day.Tie as tie
 
 abbrev Inv-loop : tie.InvT-loop
-Inv-loop days i₀ i = anyInvalidDay days ≡ anyInvalidDay (drop i days)
+Inv-loop days invalid₀ i₀ invalid i = anyInvalidDay days ≡ (invalid || anyInvalidDay (drop i days))
 
 abbrev μ-loop : tie.MeasureT-loop
-μ-loop days i₀ i = length days - i
+μ-loop days invalid₀ i₀ invalid i = length days - i
 
 loop-holds : tie.Need-loop-holds Inv-loop μ-loop
 loop-holds c = refl
@@ -29,10 +30,8 @@ shared-slice-read-is-invalid-day c = omega arith
 is-invalid-day-requires : tie.Need-is-invalid-day-requires Inv-loop μ-loop
 is-invalid-day-requires c κs = tt
 
-returns : tie.Need-returns Inv-loop μ-loop
-returns c =
-    let l = c .before .before .before in
-    invalid-day (now (l .before .before .before .args .days)) (l .before .loop .i) (l .before .loop .inv) (l .loop-test .taken) (c .before .is-invalid-day .ensures) (c .if1 .taken)
+either-requires : tie.Need-either-requires Inv-loop μ-loop
+either-requires c κs = tt
 
 add-i : tie.Need-add-i Inv-loop μ-loop
 add-i c = omega arith
@@ -42,11 +41,13 @@ loop-less c = omega arith
 
 loop-again : tie.Need-loop-again Inv-loop μ-loop
 loop-again c =
-    let l = c .before .before .before in
-    valid-day (now (l .before .before .before .args .days)) (l .before .loop .i) (l .before .loop .inv) (l .loop-test .taken) (c .before .is-invalid-day .ensures) (c .if1 .left)
+    let l = c .before .before .before .before in
+    day-looked-at (now (l .before .before .args .days)) (l .loop .i) (l .loop .invalid) (l .loop .inv) (c .before .before .before .loop-test .taken) (c .before .is-invalid-day .ensures) (c .either .ensures)
 
-returns-2 : tie.Need-returns-2 Inv-loop μ-loop
-returns-2 c = all-valid (now (c .before .before .before .args .days)) (c .before .loop .i) (c .before .loop .inv) (c .loop-test .left)
+returns : tie.Need-returns Inv-loop μ-loop
+returns c =
+    let l = c .before in
+    days-looked-at (now (l .before .before .args .days)) (l .loop .i) (l .loop .invalid) (l .loop .inv) (c .loop-test .left)
 
 pub any-invalid-day-spec : {M : Type 1} → statement M
 any-invalid-day-spec =
@@ -58,8 +59,8 @@ any-invalid-day-spec =
     mul-is-invalid-day
     shared-slice-read-is-invalid-day
     is-invalid-day-requires
-    returns
+    either-requires
     add-i
     loop-less
     loop-again
-    returns-2)
+    returns)
