@@ -1,0 +1,6 @@
+mod Paging
+mod Numerals
+mod Days
+pub mod Sentences
+mod Running
+mod Lengths
