@@ -1,8 +1,8 @@
 -- The line of a day, and the lines of the days behind it.
 -- Assumes nothing.
-use Prim.Native.Nat.{ℕ, suc, _+_, _≤_, _<_}
-use mathlib.Core.Path.{_≡_, refl, sym, _∙_, ap}
-use mathlib.Core.List.{List, [], _∷_, _++_}
+use Prim.Native.Nat.{ℕ, _+_, _≤_, _<_}
+use mathlib.Core.Path.{_≡_, sym, ap}
+use mathlib.Core.List.{List, [], _++_}
 use mathlib.Core.Option.{none, some}
 use native.Mathlib.Nat.{add-zero, add-suc}
 use native.Mathlib.Numerals.{add-one}
@@ -10,7 +10,6 @@ use lib.ListN.{length, getD, drop, drop-of-length-le}
 use lib.Seq.{drop-cons}
 use Rattle.series.specs.Units.{missingMark, dayOf}
 use Rattle.series.proofs.Views.{day-missing, day-present}
-use Rattle.report.specs.Decimal.{characters, decimal}
 use Rattle.report.specs.Text.{dayLine, dayLines}
 
 module _ (day base : ℕ) {flow : ℕ} where

@@ -1,6 +1,8 @@
-mod Paging
-mod Numerals
-mod Days
 pub mod Sentences
-mod Running
+mod Numerals
+mod Refusals
 mod Lengths
+mod Days
+mod Paging
+mod Running
+mod Examples

@@ -3,10 +3,10 @@
 use Prim.Native.Nat.{ℕ, _≤_, min}
 use mathlib.Core.Path.{_≡_, refl, sym, _∙_, ap, ap₂, subst}
 use mathlib.Core.List.{List, _++_}
-use mathlib.Core.Option.{Option, none, some}
+use mathlib.Core.Option.{none}
 use native.Mathlib.Omega.{arith}
 use lib.ListN.{length, take, drop, length-take}
-use lib.Seq.{take-at, length-take-le}
+use lib.Seq.{take-at}
 use Rattle.series.specs.declared.Refusal.{Refusal}
 use Rattle.series.specs.Causes.{firstCause, refusalNumber, Outcome, accepted, refused}
 use Rattle.record.specs.Reading.{Stated, reading}
@@ -24,7 +24,7 @@ use Rattle.accuracy.specs.Choosing.{chosenCauses}
 use Rattle.accuracy.specs.Separating.{stopped, separated, front, byCause, overDays, afterReading, separationOf, Carried}
 use Rattle.report.specs.Decimal.{characters}
 use Rattle.report.specs.Text.{setting, dayLines, indexLine, recordText}
-use Rattle.report.proofs.Sentences.{filter-accepts}
+use Rattle.report.proofs.Refusals.{filter-accepts}
 
 -- the run over the days of an accepted record, with a base list that is long enough: no cause holds
 module _ (bytes base : List ℕ) (space : length base ≡ 2048) {s : Stated} (reads : reading 2048 bytes ≡ accepted s) where

@@ -1,98 +1,52 @@
--- Document 01's sentences on the program `separate`, proved of the definitions in specs/.
+-- READ THIS FIRST. What makes the text of specs/ believable, proved of its definitions.
 -- Assumes nothing.
-use Prim.Native.Nat.{ℕ, zero, suc, _+_, _≤_}
-use mathlib.Core.Path.{_≡_, refl, sym, subst}
-use mathlib.Core.Bool.{Bool, true, false, cond}
-use mathlib.Core.List.{List, [], _∷_, _++_}
-use mathlib.Core.Option.{Option, none, some, Option·some-injective}
-use native.Mathlib.Nat.{pos-of-ne-zero}
-use native.Mathlib.Omega.{arith}
-use lib.ListN.{length}
-use borrow.Author.Needs.{needs}
-use borrow.Author.Tests.{eqb-false, le-ltb, eq-eqb}
-use Rattle.series.specs.Units.{dayLimit}
-use Rattle.series.specs.Causes.{Cause, firstCause, Outcome, accepted, refused, outcome}
-use Rattle.series.specs.Lists.{tooLong, lengthsDiffer, anyInvalidDay}
-use Rattle.record.specs.Entries.{Entry, entryOf, isEnd, bodyLength, kindOf, statedDays, entryCauses}
-use Rattle.record.specs.Reading.{Stated, mapOutcome, unless, entryThen, daysFrom, reading}
-use Rattle.record.proofs.Accepting.{accepted-record}
-use Rattle.series.proofs.Refusing.{AllFalse, no-cause, next-false}
-use Rattle.totals.specs.declared.Totals.{Totals}
-use Rattle.totals.specs.Sums.{flowTotal, index}
-use Rattle.totals.specs.Totalling.{listedDays, noFlow, totalsCauses, totalsOf, totalsOutcome}
-use Rattle.totals.proofs.Summing.{base-at-most}
-use Rattle.numbers.proofs.Rounding.{near-at-most}
-use Rattle.filter.specs.Methods.{methodOf, between, inRange, unknownMethod, outOfRange, invalidPasses}
+use Prim.Native.Nat.{ℕ, _+_, _*_, _%_, _^_, _≤_, _<_}
+use mathlib.Core.Path.{_≡_}
+use mathlib.Core.List.{List, _++_, map}
+use mathlib.Core.Option.{none, some}
+use lib.ListN.{length, getD, drop}
+use Rattle.series.specs.Units.{dayOf}
+use Rattle.series.specs.Causes.{firstCause, accepted, refused}
+use Rattle.record.specs.Reading.{Stated, reading}
 use Rattle.filter.specs.Filtering.{filterCauses}
-use Rattle.report.specs.Text.{setting}
+use Rattle.totals.specs.declared.Totals.{Totals}
+use Rattle.totals.specs.Totalling.{totalsOutcome}
+use Rattle.report.specs.Decimal.{decimal, lastDigits, DigitsOf, DecimalOf}
+use Rattle.report.specs.Text.{setting, baseFlow, dayLine, dayLines, separateText}
+use Rattle.report.proofs.Numerals as N
+use Rattle.report.proofs.Refusals as R
+use Rattle.report.proofs.Lengths as L
+use Rattle.report.proofs.Days as D
+
+-- the digits of a number, read from the left in base ten, say the number; no zero stands before them
+pub decimal-says : (n : ℕ) → DecimalOf n (decimal n)
+decimal-says = N.decimal-says
+
+-- its last k digits say its remainder by 10^k, and are k, so leading zeros are kept
+pub last-say : (k n : ℕ) → DigitsOf (n % 10 ^ k) (lastDigits k n) × (length (lastDigits k n) ≡ k)
+last-say k n = (N.last-say k n, N.last-length k n)
+
+-- the line of the day at position t is that of the first day + t, and the later days' lines follow it
+pub line-at : (first : ℕ) (days base : List ℕ) (t : ℕ) → t < length days → t < length base
+    → dayLines (first + t) (drop t days) (drop t base) ≡ dayLine (first + t) (dayOf (getD days t 0)) (getD base t 0) ++ dayLines (first + (t + 1)) (drop (t + 1) days) (drop (t + 1) base)
+line-at = D.next-day
+
+-- on a present day the number in the base list is a base value, between zero and the flow: no mark is printed
+pub base-within : (days : List ℕ) (t : ℕ) {y : ℕ} → getD (map dayOf days) t none ≡ some y → getD (baseFlow days) t 0 ≤ 1000 * y
+base-within days t = L.base-within days t
 
 -- the filter refuses no days that a record states, where it is lent a base list of their number
 pub filter-accepts : (room : ℕ) (bytes : List ℕ) {s : Stated} → reading room bytes ≡ accepted s → (base : List ℕ) → length base ≡ length (s .days) → firstCause (filterCauses setting 1 (s .days) base) ≡ none
-unfolding filterCauses methodOf between inRange unknownMethod outOfRange invalidPasses tooLong lengthsDiffer
-filter-accepts room bytes {s} e base l =
-    let a = accepted-record room bytes e in
-    simp (le-ltb dayLimit (length (s .days)) (a .within-limit), eq-eqb (length (s .days)) (length base) (sym l), a .valid)
+filter-accepts room bytes = R.filter-accepts room bytes
 
--- any other refusal is one of reading, and has a number from 1 to 8
-abbrev ReadingNumber : ℕ → Type 0
-ReadingNumber n = (1 ≤ n) × (n ≤ 8)
-
-abbrev ReadingCauses : List Cause → Type 0
-ReadingCauses [] = Unit {0}
-ReadingCauses (c ∷ cs) = ReadingNumber (c .number) × ReadingCauses cs
-
-cause-number : (cs : List Cause) → ReadingCauses cs → {r : ℕ} → firstCause cs ≡ some r → ReadingNumber r
-cause-number [] all h = let z : _≡_ {A = ℕ} 0 1 = cc in absurd (omega arith)
-cause-number (c ∷ cs) all {r} h = by-test (c .holds) refl (cause-number cs (all .1))
-  where
-    by-test : (b : Bool) → c .holds ≡ b → (firstCause cs ≡ some r → ReadingNumber r) → ReadingNumber r
-    by-test true e rest = subst ReadingNumber (Option·some-injective (c .number) r (rw e at h)) (all .0)
-    by-test false e rest = rest (rw e at h)
-
-entry-causes : (first : Bool) (n room : ℕ) (e : Entry) → ReadingCauses (entryCauses first n room e)
-unfolding entryCauses
-entry-causes first n room e = search needs
-
-map-refused : {A B : Type 0} (f : A → B) (o : Outcome A) {r : ℕ} → mapOutcome f o ≡ refused r → o ≡ refused r
-map-refused f (accepted a) h = let z : _≡_ {A = ℕ} 0 1 = cc in absurd (omega arith)
-map-refused f (refused n) h = cc
-
-entry-refused : (first : Bool) (n room : ℕ) (e : Entry) (o : Outcome (List ℕ)) {r : ℕ} → ((m : ℕ) → o ≡ refused m → ReadingNumber m) → entryThen first n room e (λ _. o) ≡ refused r → ReadingNumber r
-unfolding entryThen
-entry-refused first n room e o {r} further h = by-cause (firstCause (entryCauses first n room e)) refl (isEnd (e .kind)) h
-  where
-    by-cause : (c : Option ℕ) → firstCause (entryCauses first n room e) ≡ c → (b : Bool) → unless c (cond b (accepted []) (mapOutcome (λ ds. statedDays e ++ ds) o)) ≡ refused r → ReadingNumber r
-    by-cause (some k) q b g = let same : k ≡ r = cc in subst ReadingNumber same (cause-number (entryCauses first n room e) (entry-causes first n room e) q)
-    by-cause none q true g = let z : _≡_ {A = ℕ} 0 1 = cc in absurd (omega arith)
-    by-cause none q false g = further r (map-refused (λ ds. statedDays e ++ ds) o g)
-
-days-refused : (first : Bool) (n room over : ℕ) (bytes : List ℕ) {r : ℕ} → daysFrom first n room over bytes ≡ refused r → ReadingNumber r
-unfolding daysFrom entryThen
-days-refused first n room over [] {r} h = let same : 1 ≡ r = cc in (omega arith, omega arith)
-days-refused first n room (suc over) (b ∷ bs) h = days-refused first n room over bs h
-days-refused first n room zero (b ∷ bs) {r} h =
-    let e = entryOf b bs in
-    let m = n + length (statedDays e) in
-    entry-refused first n room e (daysFrom false m room (bodyLength (kindOf b)) bs) (λ k. days-refused false m room (bodyLength (kindOf b)) bs) h
-
-pub reading-refused : (room : ℕ) (bytes : List ℕ) {r : ℕ} → reading room bytes ≡ refused r → ReadingNumber r
-unfolding reading
-reading-refused room bytes h = days-refused true 0 room 0 bytes (map-refused _ (daysFrom true 0 room 0 bytes) h)
+-- so any other refusal than the totals' is one of reading, and has a number from 1 to 8
+pub reading-refused : (room : ℕ) (bytes : List ℕ) {r : ℕ} → reading room bytes ≡ refused r → (1 ≤ r) × (r ≤ 8)
+reading-refused room bytes = R.reading-refused room bytes
 
 -- the index is at most 1.0000
-outcome-accepted : {A : Type 0} (cs : List Cause) {a t : A} → outcome cs a ≡ accepted t → AllFalse cs × (a ≡ t)
-outcome-accepted [] h = (no-cause, cc)
-outcome-accepted (c ∷ cs) {a} {t} h = by-test (c .holds) refl (outcome-accepted cs {a = a} {t = t})
-  where
-    by-test : (b : Bool) → c .holds ≡ b → (outcome cs a ≡ accepted t → AllFalse cs × (a ≡ t)) → AllFalse (c ∷ cs) × (a ≡ t)
-    by-test true e rest = let g : refused (c .number) ≡ accepted t = rw e at h in let z : _≡_ {A = ℕ} 0 1 = cc in absurd (omega arith)
-    by-test false e rest = let r = rest (rw e at h) in (next-false e (r .0), r .1)
-
 pub index-at-most : (days base : List ℕ) {t : Totals} → totalsOutcome days base ≡ accepted t → t .index ≤ 10000
-unfolding totalsOutcome totalsCauses totalsOf index noFlow
-index-at-most days base {t} h = let r = outcome-accepted (totalsCauses days base) h in tests (r .0) (r .1)
-  where
-    tests : AllFalse (totalsCauses days base) → totalsOf (listedDays days base) ≡ t → t .index ≤ 10000
-    tests (next-false h₁ (next-false h₂ (next-false h₃ (next-false h₄ (next-false h₅ no-cause))))) e =
-        subst (λ x. x .index ≤ 10000) e
-        (near-at-most {n = 10000} (pos-of-ne-zero (eqb-false (flowTotal (listedDays days base)) 0 h₅)) (omega (arith, base-at-most days base h₄)))
+index-at-most days base = L.index-at-most days base
+
+-- the longest text has at most 14 + 2,048 × 29 + 13 bytes
+pub text-length : (bytes : List ℕ) → length (separateText bytes) ≤ 59419
+text-length = L.text-length

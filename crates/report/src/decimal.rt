@@ -22,8 +22,8 @@ pub fn decimal(text: &mut [u8], at: usize, number: u64) -> usize
     if number < 10 {
         return put(text, at, digit(number));
     }
-    let end = decimal(text, at, number / 10);
-    put(text, end, digit(number % 10))
+    let last = decimal(text, at, number / 10);
+    put(text, last, digit(number % 10))
 }
 
 // The last digits of a number, as many as asked, leading zeros kept.

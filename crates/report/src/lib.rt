@@ -14,7 +14,6 @@ ghost use mathlib.Core.Path.{_≡_};
 ghost use mathlib.Core.List.{_++_};
 ghost use Prim.Native.Nat.{_≤_};
 ghost use lib.ListN.{length, drop};
-ghost use Rattle.series.specs.Causes.{accepted};
 ghost use Rattle.record.specs.Reading.{reading};
 ghost use Rattle.totals.specs.Totalling.{outcomeOf};
 ghost use Rattle.accuracy.specs.declared.Choice.the-variants.{Filter};
@@ -89,7 +88,7 @@ fn write_table(
     requires { ⌜ (length (now days) ≤ 2048) × (length (now base) ≡ length (now days)) ⌝ }
     ensures { λ r. ⌜ Writes (characters "day flow base\n" ++ dayLines «first_day» (now (days .entry)) (now (base .entry)) ++ indexLine (outcomeOf totals)) (page (now (text .entry)) 0) (page (now (text .exit)) r) ⌝ }
 {
-    let at = put_text(text, 0, b"day flow base\n");
-    let at = day_lines(text, at, first_day, days, base);
-    index_line(text, at, totals)
+    let end = put_text(text, 0, b"day flow base\n");
+    let end = day_lines(text, end, first_day, days, base);
+    index_line(text, end, totals)
 }

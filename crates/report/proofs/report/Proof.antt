@@ -1,7 +1,7 @@
 -- `report::report` meets its contract: the text fits the buffer.
 -- Assumes nothing.
-use borrow.Author.Needs.{needs}
 use native.Mathlib.Omega.{arith}
+use borrow.Author.Needs.{needs}
 use denote.Ref.{now}
 use Rattle.report.proofs.Paging.{fits}
 use Rattle.report.proofs.Lengths.{text-length}

@@ -1,11 +1,10 @@
 -- `report::write` meets its contract.
 -- Assumes nothing.
-use borrow.Author.Needs.{needs}
 use lib.ListN.{length}
+use borrow.Author.Needs.{needs}
 use borrow.Author.Tests.{lt-ltb, le-ltb}
 use denote.Ref.{now}
 use Rattle.report.specs.Text.{separateText}
-use mathlib.Core.Path.{sym}
 use Rattle.report.proofs.Paging.{as-text}
 use Rattle.report.proofs.write.Statement.{statement}
 use Rattle.report.proofs.write.Tie as tie

@@ -1,11 +1,11 @@
 -- `report::write_record` meets its contract: the lists that the run filled are what the text shows.
 -- Assumes nothing.
-use borrow.Author.Needs.{needs}
 use Prim.Native.Nat.{ℕ}
 use mathlib.Core.Path.{_≡_, sym, _∙_}
 use mathlib.Core.List.{List}
 use lib.ListN.{length, replicate, length-replicate}
 use lib.Seq.{length-take-le}
+use borrow.Author.Needs.{needs}
 use denote.Ref.{now}
 use Rattle.report.proofs.Paging.{as-text}
 use Rattle.report.proofs.Running.{Shown, refused-text, shown}

@@ -1,8 +1,8 @@
 -- `separate::main` is safe and ends.
 -- Assumes nothing.
-use borrow.Author.Needs.{needs}
 use mathlib.Core.Path.{sym}
 use lib.Seq.{length-take-le}
+use borrow.Author.Needs.{needs}
 use Rattle.separate.proofs.Reading.{fits}
 use Rattle.separate.proofs.main.Statement.{statement}
 use Rattle.separate.proofs.main.Tie as tie

@@ -1,8 +1,8 @@
 -- `separate::write_report` is safe and ends.
 -- Assumes nothing.
-use borrow.Author.Needs.{needs}
 use mathlib.Core.Path.{sym}
 use lib.Seq.{length-take-le}
+use borrow.Author.Needs.{needs}
 use Rattle.separate.proofs.write_report.Statement.{statement}
 use Rattle.separate.proofs.write_report.Tie as tie
 

@@ -1,10 +1,10 @@
 -- `report::lines::index_line` meets its contract.
 -- Assumes nothing.
-use borrow.Author.Needs.{needs}
 use mathlib.Core.Path.{sym, ap}
-use Rattle.report.proofs.Paging.{then, as-text}
+use borrow.Author.Needs.{needs}
 use Rattle.totals.specs.Totalling.{outcomeOf}
 use Rattle.report.specs.Text.{indexLine}
+use Rattle.report.proofs.Paging.{then, as-text}
 use Rattle.report.proofs.lines.index_line.Statement.{statement}
 use Rattle.report.proofs.lines.index_line.Tie as tie
 

@@ -1,9 +1,9 @@
 -- `report::lines::refused_line` meets its contract.
 -- Assumes nothing.
-use borrow.Author.Needs.{needs}
 use mathlib.Core.Path.{ap}
-use Rattle.report.proofs.Paging.{then, as-text}
+use borrow.Author.Needs.{needs}
 use Rattle.report.specs.Decimal.{decimal}
+use Rattle.report.proofs.Paging.{then, as-text}
 use Rattle.report.proofs.lines.refused_line.Statement.{statement}
 use Rattle.report.proofs.lines.refused_line.Tie as tie
 
