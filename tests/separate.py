@@ -19,6 +19,7 @@ MOST_BYTES, MOST_DAYS, SPACE = 32768, 36525, 2048
 MOST_FLOW, LAST_FIRST_DAY = 10_000_000, 99_999
 P = 9250
 SAMPLE = bytes.fromhex("01000000000264000000 02C800000003 0232000000 0904000000")
+SAMPLE_FILE = os.path.join(os.path.dirname(os.path.abspath(__file__)), "../samples/sample.record")
 SAMPLE_TEXT = b"day flow base\n0 100 50.000\n1 200 57.500\n2 missing\n3 50 25.000\nindex 0.3786\n"
 
 
@@ -199,6 +200,9 @@ def main():
     if len(sys.argv) > 2:
         sys.exit(__doc__)
     program = os.path.abspath(sys.argv[1] if len(sys.argv) == 2 else PROGRAM)
+    with open(SAMPLE_FILE, "rb") as sample:
+        if sample.read() != SAMPLE:
+            sys.exit("samples/sample.record is not document 01's sample")
     passed, failed, seen = 0, [], set()
     for record, known in [*chosen(), *made(1900, 500)]:
         wanted = text(record)

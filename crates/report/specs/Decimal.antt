@@ -1,4 +1,4 @@
--- Numbers as text: decimal digits, the most significant first (document 01, the program `separate`).
+-- Numbers as text. "Digits come out most significant first" (document 01).
 use Prim.Native.Nat.{ℕ, zero, suc, _+_, _-_, _*_, _/_, _%_, _^_, _≤_, _<_}
 use Prim.Native.Char.{code}
 use Prim.Native.String.{String, [] as no-text, _∷_ as _&_}
@@ -8,12 +8,12 @@ use mathlib.Core.List.{List, [], _∷_, _++_}
 use lib.ListN.{getD}
 use lib.Dec.{ltb}
 
--- the bytes of a quoted text
+-- the bytes of a quoted text, a byte for each character
 abbrev pub characters : String → List ℕ
 characters no-text = []
 characters (c & s) = code c ∷ characters s
 
--- the character of a digit
+-- the character of a digit; `0` is 48
 abbrev pub digit : ℕ → ℕ
 digit d = 48 + d
 
@@ -37,8 +37,8 @@ lastDigits (suc k) n = lastDigits k (n / 10) ++ digit (n % 10) ∷ []
 abbrev pub fixedPoint : ℕ → ℕ → List ℕ
 fixedPoint k n = decimal (n / 10 ^ k) ++ characters "." ++ lastDigits k n
 
--- What makes characters the digits of a number, proved of the two definitions in proofs/Numerals.antt: what they say in
--- base ten, read from the left; that each is a digit; and that no zero stands before a number's first digit.
+-- What makes characters the digits of a number: what they say in base ten, read from the left; that each is a digit; and
+-- that no zero stands before a number's first digit. proofs/Sentences.antt has it of `decimal` and `lastDigits`.
 unfoldable pub readOn : ℕ → List ℕ → ℕ
 readOn n [] = n
 readOn n (d ∷ ds) = readOn (10 * n + (d - 48)) ds

@@ -1,4 +1,5 @@
--- THE TEXT of the program `separate`, for any bytes on its standard input (document 01, "The program `separate`").
+-- THE TEXT of the program `separate`, for any bytes on its standard input: document 01's sentences on it, in quotes, with
+-- the definition that each one is.
 use Prim.Native.Nat.{ℕ, suc}
 use mathlib.Core.Bool.{cond}
 use mathlib.Core.List.{List, [], _∷_, _++_}
@@ -14,11 +15,11 @@ use Rattle.totals.specs.declared.Totals.{Totals}
 use Rattle.totals.specs.Totalling.{totalsOutcome}
 use Rattle.report.specs.Decimal.{characters, decimal, fixedPoint}
 
--- "uses method 1, p 9250": no q
+-- "uses method 1, p 9250" (its row has no q)
 abbrev pub setting : Setting
 setting = record { method = 1; p = 9250; q = 0 }
 
--- "one pass": the base list over the days that a record states
+-- "one pass": the base list of the days that a record states
 abbrev pub baseFlow : List ℕ → List ℕ
 baseFlow days = filteredList setting 1 days
 
@@ -28,7 +29,7 @@ abbrev pub dayLine : (day : ℕ) → Option ℕ → (base : ℕ) → List ℕ
 dayLine day none base = decimal day ++ characters " missing\n"
 dayLine day (some flow) base = decimal day ++ characters " " ++ decimal flow ++ characters " " ++ fixedPoint 3 base ++ characters "\n"
 
--- a line a day, of the days from a first one on and the base list beside them
+-- a line a day, of a day list and its base list, which have one length: the day since 1900 goes up by one from line to line
 unfoldable pub dayLines : (day : ℕ) → (days base : List ℕ) → List ℕ
 dayLines day [] base = []
 dayLines day (d ∷ days) [] = []
@@ -40,7 +41,7 @@ abbrev pub indexLine : Outcome Totals → List ℕ
 indexLine (accepted t) = characters "index " ++ fixedPoint 4 (t .index) ++ characters "\n"
 indexLine (refused n) = characters "index none\n"
 
--- the header, the days and the index
+-- the header, the days from the first day on, and the index
 abbrev pub table : (firstDay : ℕ) → (days base : List ℕ) → List ℕ
 table firstDay days base = characters "day flow base\n" ++ dayLines firstDay days base ++ indexLine (totalsOutcome days base)
 

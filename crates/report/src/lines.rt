@@ -35,6 +35,7 @@ fn missing_day(text: &mut [u8], at: usize, day: u64) -> usize
     put_text(text, end, b" missing\n")
 }
 
+// The line of a day.
 fn day_line(text: &mut [u8], at: usize, day: u64, flow: u32, base: u64) -> usize
     ensures { λ r. ⌜ Writes (dayLine day (dayOf flow) base) (page (now (text .entry)) at) (page (now (text .exit)) r) ⌝ }
 {
