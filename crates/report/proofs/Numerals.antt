@@ -1,0 +1,129 @@
+-- Decimal digits: a number's digits by its last one, how many they are, and what they say.
+-- Assumes nothing.
+use Prim.Native.Nat.{ℕ, zero, suc, _+_, _-_, _*_, _/_, _%_, _^_, _≤_, _<_}
+use mathlib.Core.Path.{_≡_, refl, sym, _∙_, ap, subst}
+use mathlib.Core.Bool.{Bool, true, false}
+use mathlib.Core.List.{List, [], _∷_, _++_}
+use native.Mathlib.Nat.{le-refl, mul-comm, mul-assoc, div-add-mod, mul-add-mod-self-left, mod-eq-of-lt, mod-lt, mod-one, pow-suc, one-le-pow}
+use native.Mathlib.Numerals.{sub-one}
+use native.Mathlib.Omega.{arith}
+use lib.Dec.{ltb}
+use lib.ListN.{length, getD, length-append}
+use borrow.Author.Tests.{lt-ltb, le-ltb, ltb-true, ltb-false}
+use Rattle.report.specs.Decimal.{digit, digitsWithin, decimal, lastDigits, readOn, AllDigits, DigitsOf, DecimalOf}
+
+-- a number below ten, and any other, in one division more
+within-below : (k n : ℕ) → n < 10 → digitsWithin k n ≡ digit n ∷ []
+unfolding digitsWithin
+within-below zero n h = refl
+within-below (suc k) n h = simp (lt-ltb n 10 h)
+
+within-more : (k n : ℕ) → 10 ≤ n → digitsWithin (suc k) n ≡ digitsWithin k (n / 10) ++ digit (n % 10) ∷ []
+unfolding digitsWithin
+within-more k n h = simp (le-ltb n 10 h)
+
+-- divisions beyond the number change nothing
+enough : (k j n : ℕ) → n ≤ k → n ≤ j → digitsWithin k n ≡ digitsWithin j n
+enough zero j n h g = within-below zero n (omega arith) ∙ sym (within-below j n (omega arith))
+enough (suc k) zero n h g = within-below (suc k) n (omega arith) ∙ sym (within-below zero n (omega arith))
+enough (suc k) (suc j) n h g = by-test (ltb n 10) refl (λ m. enough k j (n / 10) (omega arith) (omega arith))
+  where
+    by-test : (b : Bool) → ltb n 10 ≡ b → (10 ≤ n → digitsWithin k (n / 10) ≡ digitsWithin j (n / 10)) → digitsWithin (suc k) n ≡ digitsWithin (suc j) n
+    by-test true e rest = let m = ltb-true n 10 e in within-below (suc k) n m ∙ sym (within-below (suc j) n m)
+    by-test false e rest =
+        let m = ltb-false n 10 e in
+        within-more k n m ∙ ap (λ l. l ++ digit (n % 10) ∷ []) (rest m) ∙ sym (within-more j n m)
+
+pub decimal-below : (n : ℕ) → n < 10 → digit n ∷ [] ≡ decimal n
+unfolding decimal
+decimal-below n h = sym (within-below n n h)
+
+-- the digits of n / 10, and then the last
+pub decimal-more : (n : ℕ) → 10 ≤ n → decimal (n / 10) ++ digit (n % 10) ∷ [] ≡ decimal n
+unfolding decimal
+decimal-more zero h = absurd (omega arith)
+decimal-more (suc m) h = sym (within-more m (suc m) h ∙ ap (λ l. l ++ digit (suc m % 10) ∷ []) (enough m (suc m / 10) (suc m / 10) (omega arith) (omega arith)))
+
+-- no digits, and one more than before
+pub last-none : (n : ℕ) {k : ℕ} → k ≡ 0 → [] ≡ lastDigits k n
+unfolding lastDigits
+last-none n e = rw e
+
+pub last-more : (n k : ℕ) → (k ≡ 0 → ⊥) → lastDigits (k - 1) (n / 10) ++ digit (n % 10) ∷ [] ≡ lastDigits k n
+unfolding lastDigits
+last-more n zero h = absurd (h refl)
+last-more n (suc k) h = rw (sub-one (suc k))
+
+-- how many they are
+pub decimal-length : (k n : ℕ) → n < 10 ^ suc k → length (decimal n) ≤ suc k
+decimal-length zero n h = omega (arith, ap length (decimal-below n h))
+decimal-length (suc k) n h = by-test (ltb n 10) refl (decimal-length k (n / 10))
+  where
+    by-test : (b : Bool) → ltb n 10 ≡ b → (n / 10 < 10 ^ suc k → length (decimal (n / 10)) ≤ suc k) → length (decimal n) ≤ suc (suc k)
+    by-test true e rest = omega (arith, ap length (decimal-below n (ltb-true n 10 e)))
+    by-test false e rest =
+        let r = rest (omega (arith, pow-suc 10 (suc k))) in
+        omega (arith, ap length (decimal-more n (ltb-false n 10 e)), length-append (decimal (n / 10)) (digit (n % 10) ∷ []))
+
+pub last-length : (k n : ℕ) → length (lastDigits k n) ≡ k
+unfolding lastDigits
+last-length zero n = refl
+last-length (suc k) n = length-append (lastDigits k (n / 10)) (digit (n % 10) ∷ []) ∙ omega (arith, last-length k (n / 10))
+
+-- what they say
+read-append : (m : ℕ) (ds es : List ℕ) → readOn m (ds ++ es) ≡ readOn (readOn m ds) es
+unfolding readOn
+read-append m [] es = refl
+read-append m (d ∷ ds) es = read-append (10 * m + (d - 48)) ds es
+
+digits-append : (ds es : List ℕ) → AllDigits ds → AllDigits es → AllDigits (ds ++ es)
+digits-append [] es h g = g
+digits-append (d ∷ ds) es h g = (h .0, digits-append ds es (h .1) g)
+
+-- one digit more
+more-digits : {m n : ℕ} (ds : List ℕ) (d : ℕ) → d < 10 → n ≡ 10 * m + d → DigitsOf m ds → DigitsOf n (ds ++ digit d ∷ [])
+unfolding readOn
+more-digits ds d h e s =
+    record {
+      value = read-append 0 ds (digit d ∷ []) ∙ omega (arith, s .value);
+      digits = digits-append ds (digit d ∷ []) (s .digits) ((omega arith, omega arith), tt);
+    }
+
+first-kept : (ds es : List ℕ) → 48 < getD ds 0 0 → 48 < getD (ds ++ es) 0 0
+first-kept [] es h = absurd (omega arith)
+first-kept (d ∷ ds) es h = h
+
+one-digit : (n : ℕ) → n < 10 → DecimalOf n (digit n ∷ [])
+unfolding readOn
+one-digit n h = record { says = record { value = omega arith; digits = ((omega arith, omega arith), tt) }; no-zero-first = λ p. omega arith }
+
+says-within : (k n : ℕ) → n ≤ k → DecimalOf n (decimal n)
+says-within zero n h = subst (DecimalOf n) (decimal-below n (omega arith)) (one-digit n (omega arith))
+says-within (suc k) n h = by-test (ltb n 10) refl (says-within k (n / 10))
+  where
+    by-test : (b : Bool) → ltb n 10 ≡ b → (n / 10 ≤ k → DecimalOf (n / 10) (decimal (n / 10))) → DecimalOf n (decimal n)
+    by-test true e rest = let m = ltb-true n 10 e in subst (DecimalOf n) (decimal-below n m) (one-digit n m)
+    by-test false e rest =
+        let m = ltb-false n 10 e in
+        let r = rest (omega arith) in
+        subst (DecimalOf n) (decimal-more n m)
+        (record { says = more-digits (decimal (n / 10)) (n % 10) (omega arith) (omega arith) (r .says); no-zero-first = λ p. first-kept (decimal (n / 10)) (digit (n % 10) ∷ []) (r .no-zero-first (omega arith)) })
+
+-- THE SENTENCE on a number in decimal: its digits, read in base ten, say the number, with no zero before the first
+pub decimal-says : (n : ℕ) → DecimalOf n (decimal n)
+decimal-says n = says-within n n (le-refl n)
+
+-- the last digits of n by those of n / 10, where P is a power of ten
+remainder : (n P : ℕ) → 0 < P → n % (P * 10) ≡ 10 * (n / 10 % P) + n % 10
+remainder n P h =
+    let m = n / 10 in
+    let product : P * 10 * (m / P) ≡ 10 * (P * (m / P)) = ap (λ x. x * (m / P)) (mul-comm P 10) ∙ mul-assoc 10 P (m / P) in
+    let split : n ≡ P * 10 * (m / P) + (10 * (m % P) + n % 10) = omega (arith, product, div-add-mod m P) in
+    ap (λ x. x % (P * 10)) split ∙ mul-add-mod-self-left (P * 10) (m / P) (10 * (m % P) + n % 10) ∙ mod-eq-of-lt (omega (arith, mod-lt m h))
+
+-- and on its last digits: they say the number's remainder by a power of ten, with their zeros as many as asked
+pub last-say : (k n : ℕ) → DigitsOf (n % 10 ^ k) (lastDigits k n)
+unfolding lastDigits readOn
+last-say zero n = record { value = sym (mod-one n); digits = tt }
+last-say (suc k) n =
+    more-digits (lastDigits k (n / 10)) (n % 10) (omega arith) (ap (λ P. n % P) (pow-suc 10 k) ∙ remainder n (10 ^ k) (one-le-pow k 10 (omega arith))) (last-say k (n / 10))
