@@ -1,30 +1,17 @@
 -- The shared causes as the loops find them: a cause holds of a list if it holds of what is left after i days that do
 -- not show it.
 -- Assumes nothing.
-use Prim.Native.Nat.{ℕ, _+_, _*_, _≤_, _<_, min}
+use Prim.Native.Nat.{ℕ, _+_, _≤_, _<_, min}
 use mathlib.Core.Path.{_≡_, refl, sym, _∙_, ap}
-use mathlib.Core.Bool.{Bool, true, false, not, cond, _||_, _&&_, or-assoc, or-false}
-use mathlib.Core.Option.{none, some}
+use mathlib.Core.Bool.{Bool, false, _||_, or-assoc, or-false}
 use native.Mathlib.Nat.{min-le-left, min-le-right}
 use native.Mathlib.Omega.{arith, min-cases}
 use mathlib.Core.List.{List, [], _∷_}
 use native.Mathlib.Numerals.{add-one}
 use lib.ListN.{length, getD, drop, drop-of-length-le}
 use lib.Seq.{drop-cons}
-use lib.Dec.{eqb, ltb}
-use Rattle.series.specs.Units.{missingMark, noValueMark, isMissing, isInvalidDay, dayOf, baseOf}
+use Rattle.series.specs.Units.{isInvalidDay, dayOf, baseOf}
 use Rattle.series.specs.Lists.{anyInvalidDay, isInvalidBase, anyInvalidBase}
-
--- the tests of one day and its base value, all made
-pub by-tests : (d b : ℕ) {missing-or-above r : Bool} → missing-or-above ≡ (eqb d missingMark || ltb (1000 * d) b) → r ≡ (not (eqb b noValueMark) && missing-or-above) → r ≡ isInvalidBase (dayOf d) (baseOf b)
-unfolding isInvalidBase dayOf isMissing baseOf
-by-tests d b e f = f ∙ ap (λ x. not (eqb b noValueMark) && x) e ∙ cases (eqb d missingMark) (eqb b noValueMark)
-  where
-    cases : (m n : Bool) → (not n && (m || ltb (1000 * d) b)) ≡ isInvalidBase (cond m none (some d)) (cond n none (some b))
-    cases true true = refl
-    cases false true = refl
-    cases true false = refl
-    cases false false = refl
 
 -- a search: t says whether it has found anything, b is the next test, and more what comes behind it
 one-more : (t b more : Bool) {whole rest t′ b′ : Bool} → whole ≡ (t || rest) → rest ≡ (b || more) → b′ ≡ b → t′ ≡ (t || b′) → whole ≡ (t′ || more)

@@ -1,7 +1,7 @@
 // The day list and the base list as the calls take them: limits and marks, the refusals of document 01's table, and
 // the tests that several calls share. A day list holds flows in litres a second, a base list thousandths of that.
 ghost use mathlib.Core.Path.{_≡_};
-ghost use mathlib.Core.Bool.{_||_, _&&_};
+ghost use mathlib.Core.Bool.{_||_};
 ghost use Rattle.series.specs.Units.{isInvalidDay, dayOf, baseOf};
 ghost use Rattle.series.specs.Causes.{refusalNumber, refusalOf, firstCause};
 ghost use Rattle.series.specs.Lists.{tooLong, lengthsDiffer, anyInvalidDay, isInvalidBase, anyInvalidBase, listCauses};
@@ -144,20 +144,17 @@ pub fn any_invalid_day(days: &[u32]) -> bool
     invalid
 }
 
-fn both(a: bool, b: bool) -> bool
-    ensures { λ r. ⌜ r ≡ (a && b) ⌝ }
-{
-    a && b
-}
-
-// A base value on a missing day, or above 1000 × the day's flow. (Three tests that do not wait for each other.)
+// A base value on a missing day, or above 1000 × the day's flow.
 pub fn is_invalid_base(day: u32, base: u64) -> bool
     ensures { λ r. ⌜ r ≡ isInvalidBase (dayOf day) (baseOf base) ⌝ }
 {
-    let has_value = base != NO_VALUE;
-    let on_missing = day == MISSING;
-    let above_flow = 1000 * (day as u64) < base;
-    both(has_value, either(on_missing, above_flow))
+    if base == NO_VALUE {
+        return false;
+    }
+    if day == MISSING {
+        return true;
+    }
+    1000 * (day as u64) < base
 }
 
 // 20: that on some day of two lists.
