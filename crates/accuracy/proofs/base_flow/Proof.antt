@@ -22,13 +22,17 @@ same-length : tie.Need-same-length
 same-length c = search needs
 
 returns : tie.Need-returns
-returns c = called (now (c .before .before .before .before .before .before .before .before .before .args .days)) (now (c .before .before .before .before .before .before .before .before .before .args .base)) (c .before .before .before .before .before .choice .given .1) (c .before .before .filter .ensures)
+returns c =
+    let s = c .before .before .before .before .before .before .before .before .before in
+    called (now (s .args .days)) (now (s .args .base)) (c .before .before .before .before .before .choice .given .1) (c .before .before .filter .ensures)
 
 same-length-2 : tie.Need-same-length-2
 same-length-2 c = search needs
 
 returns-2 : tie.Need-returns-2
-returns-2 c = called (now (c .before .before .before .before .before .before .before .before .before .args .days)) (now (c .before .before .before .before .before .before .before .before .before .args .base)) (c .before .before .before .before .before .choice2 .given .1) (c .before .before .line .ensures)
+returns-2 c =
+    let s = c .before .before .before .before .before .before .before .before .before in
+    called (now (s .args .days)) (now (s .args .base)) (c .before .before .before .before .before .choice2 .given .1) (c .before .before .line .ensures)
 
 pub base-flow-spec : {M : Type 1} → statement M
 base-flow-spec =

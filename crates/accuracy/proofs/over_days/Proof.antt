@@ -33,7 +33,9 @@ same-length : tie.Need-same-length
 same-length c = search needs
 
 returns : tie.Need-returns
-returns c = over-refused (c .before .before .before .before .before .before .before .before .before .before .args .choice) (c .before .before .before .before .before .before .before .before .before .before .args .first-day) (now (c .before .before .before .before .before .before .before .before .before .before .args .days)) (now (c .before .before .before .before .before .before .before .before .before .before .args .base)) (c .before .before .before .before .before .before .before .least .ensures) (sym (ap refusalOf (c .before .verdict .given .1)) ∙ c .before .before .before .before .before .base-flow .ensures .0) (c .before .before .before .before .before .base-flow .ensures .1)
+returns c =
+    let s = c .before .before .before .before .before .before .before .before .before .before in
+    over-refused (s .args .choice) (s .args .first-day) (now (s .args .days)) (now (s .args .base)) (c .before .before .before .before .before .before .before .least .ensures) (sym (ap refusalOf (c .before .verdict .given .1)) ∙ c .before .before .before .before .before .base-flow .ensures .0) (c .before .before .before .before .before .base-flow .ensures .1)
 
 enum-told : tie.Need-enum-told
 enum-told c = search needs
@@ -42,7 +44,9 @@ slice-reshare-prefix-total : tie.Need-slice-reshare-prefix-total
 slice-reshare-prefix-total c = search needs
 
 slice-aggregate-total : tie.Need-slice-aggregate-total
-slice-aggregate-total c = lent-again (c .before .before .before .before .before .before .before .before .before .before .args .choice) (c .before .before .before .before .before .before .before .before .before .before .args .first-day) (now (c .before .before .before .before .before .before .before .before .before .before .args .days)) (now (c .before .before .before .before .before .before .before .before .before .before .args .base)) (c .before .before .before .before .before .before .before .least .ensures) (c .before .before .before .before .before .base-flow .last .1 .1 .0) (c .before .before .before .before .before .base-flow .kept .1 .1 .0)
+slice-aggregate-total c =
+    let s = c .before .before .before .before .before .before .before .before .before .before in
+    lent-again (s .args .choice) (s .args .first-day) (now (s .args .days)) (now (s .args .base)) (c .before .before .before .before .before .before .before .least .ensures) (c .before .before .before .before .before .base-flow .last .1 .1 .0) (c .before .before .before .before .before .base-flow .kept .1 .1 .0)
 
 total-requires : tie.Need-total-requires
 total-requires c κs = search needs
@@ -51,7 +55,9 @@ same-length-2 : tie.Need-same-length-2
 same-length-2 c = search needs
 
 returns-2 : tie.Need-returns-2
-returns-2 c = over-accepted (c .before .before .before .before .before .before .before .before .before .before .before .args .choice) (c .before .before .before .before .before .before .before .before .before .before .before .args .first-day) (now (c .before .before .before .before .before .before .before .before .before .before .before .args .days)) (now (c .before .before .before .before .before .before .before .before .before .before .before .args .base)) (c .before .before .before .before .before .before .before .before .least .ensures) (c .before .before .before .before .before .before .before .before .before .before .before .pre) (sym (ap refusalOf (c .before .before .enum-told .given .1)) ∙ c .before .before .before .before .before .before .base-flow .ensures .0) (c .before .before .before .before .before .before .base-flow .ensures .1) (c .before .before .before .before .before .before .base-flow .kept .1 .1 .0) (c .total .ensures)
+returns-2 c =
+    let s = c .before .before .before .before .before .before .before .before .before .before .before in
+    over-accepted (s .args .choice) (s .args .first-day) (now (s .args .days)) (now (s .args .base)) (c .before .before .before .before .before .before .before .before .least .ensures) (s .pre) (sym (ap refusalOf (c .before .before .enum-told .given .1)) ∙ c .before .before .before .before .before .before .base-flow .ensures .0) (c .before .before .before .before .before .before .base-flow .ensures .1) (c .before .before .before .before .before .before .base-flow .kept .1 .1 .0) (c .total .ensures)
 
 pub over-days-spec : {M : Type 1} → statement M
 over-days-spec =
