@@ -13,6 +13,7 @@ import sys
 from fractions import Fraction
 
 sys.dont_write_bytecode = True
+import rules
 from interface import Engine, Refused
 
 HALF = Fraction(1, 2)
@@ -20,121 +21,25 @@ LINE = 7  # stands for the block-minima line where a method is asked for
 LEAST_RUNS = 1500
 
 
-# document 01, "Filters": A, B, C and d by method, p and q
-def weights(method, p, q):
-    return {
-        1: (2 * p, 10000 - p, 10000 - p, 20000),
-        2: (3 * p - 10000, 10000 - p, 10000 - p, 30000 - p),
-        3: (p, 10000 - p, 0, 20000 - p),
-        4: (p, q, 0, 10000 + q),
-        5: (p * (10000 - q), (10000 - p) * q, 0, 10**8 - p * q),
-        6: (p, 10000 - p, 0, 10000),
-    }[method]
-
-
-def filter_pass(w, u, start):
-    A, B, C, d = w
-    f = [start]
-    for today, before in zip(u[1:], u):
-        f.append(min(today, (A * f[-1] + B * today + C * before) / d))
-    return f
-
-
-def exact_filter(method, p, q, passes, flows):
-    w = weights(method, p, q)
-    first = Fraction(9 * q * flows[0], 100) if method == 5 else Fraction(500 * flows[0])
-    f = filter_pass(w, [Fraction(1000 * y) for y in flows], first)
-    for n in range(2, passes + 1):
-        u = f[::-1] if n == 2 else f
-        f = filter_pass(w, u, u[0])
-        f = f[::-1] if n == 2 else f
-    return f
-
-
-# document 01, "Block-minima line"
-def turning_days(days_per_block, factor, flows):
-    minima = []
-    for start in range(0, len(flows) - days_per_block + 1, days_per_block):
-        block = flows[start:start + days_per_block]
-        minima.append((min(block), start + block.index(min(block))))
-    return [
-        day for (left, _), (middle, day), (right, _) in zip(minima, minima[1:], minima[2:])
-        if factor * middle < 10000 * left and factor * middle < 10000 * right
-    ]
-
-
-def exact_line(days_per_block, factor, flows):
-    line = [None] * len(flows)
-    turns = turning_days(days_per_block, factor, flows)
-    for i, j in zip(turns, turns[1:]):
-        for t in range(i, j + 1):
-            straight = Fraction(1000 * (flows[i] * (j - t) + flows[j] * (t - i)), j - i)
-            line[t] = min(Fraction(1000 * flows[t]), straight)
-    return line
-
-
-def stretches(days):
-    found, t = [], 0
-    while t < len(days):
-        if days[t] is None:
-            t += 1
-            continue
-        end = t
-        while end < len(days) and days[end] is not None:
-            end += 1
-        found.append((t, days[t:end]))
-        t = end
-    return found
-
-
 def refusal(method, p, q, n, days):
-    if method != LINE:
-        low = 3334 if method == 2 else 1
-        has_q = method in (4, 5)
-        most_q = 10000 if method == 4 else 9999
-        if not 1 <= method <= 6:
-            return 11
-        if not low <= p <= 9999 or (not 1 <= q <= most_q if has_q else q != 0):
-            return 12
-        if not 1 <= n <= (3 if method == 1 else 1):
-            return 13
-        return None
-    if not 1 <= n <= 30 or not 1 <= p <= 9999:
-        return 16
-    if all(len(turning_days(n, p, flows)) < 2 for _, flows in stretches(days)):
-        return 17
-    return None
+    if method == LINE:
+        return rules.bad_line(n, p) or rules.no_line(n, p, days)
+    return rules.bad_setting(method, p, q) or rules.bad_passes(method, n)
 
 
 def exact_run(method, p, q, n, days):
-    base = [None] * len(days)
-    for start, flows in stretches(days):
-        run = exact_line(n, p, flows) if method == LINE else exact_filter(method, p, q, n, flows)
-        base[start:start + len(flows)] = run
-    return base
+    def rule(flows):
+        if method == LINE:
+            return rules.line_over(Fraction, n, p, flows)
+        return rules.passes_over(Fraction, method, p, q, n, flows)
+    return rules.over_stretches(rule, days)
 
 
 def daily_limit(method, p, q, n):
     if method == LINE:
         return HALF
-    A, _, _, d = weights(method, p, q)
+    A, _, _, d = rules.weights(method, p, q)
     return Fraction(n * d, 2 * (d - A))
-
-
-# document 01, "The record"
-def record(first, days):
-    out, t = bytearray([1]) + first.to_bytes(4, "little"), 0
-    while t < len(days):
-        if days[t] is not None:
-            out += bytes([2]) + days[t].to_bytes(4, "little")
-            t += 1
-            continue
-        end = t
-        while end < len(days) and days[end] is None:
-            end += 1
-        out += b"\x03" if end - t == 1 else b"\x04" + (end - t).to_bytes(2, "little")
-        t = end
-    return bytes(out + b"\x09" + len(days).to_bytes(4, "little"))
 
 
 def storms(rng, days, gap):
@@ -230,7 +135,7 @@ def refused(call, *arguments):
 
 def measure(engine, setting, first, stated, shares):
     method, p, q, n = setting
-    assert engine.read(record(first, stated)) == (first, stated), "other days than the record states"
+    assert engine.read(rules.record(first, stated)) == (first, stated), "other days than the record states"
     days = stated
     number, base = refused(engine.line, n, p, days) if method == LINE else refused(engine.filter, method, p, q, n, days)
     wanted = refusal(method, p, q, n, days)

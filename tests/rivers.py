@@ -4,203 +4,84 @@
     tests/rivers.py > crates/rivers/stdout
     tests/rivers.py check crates/rivers/stdout     fails where the stored text is another
 
-Whole numbers of any size, lists with None for a missing day, each rule as document 01 says it; nothing is shared with the
-engine. The figures that the source documents publish are asserted where the made river settles them.
+The rules are those of tests/rules.py; nothing is shared with the engine. The figures that the source documents publish are asserted where the made river settles them.
 """
 import sys
+
+sys.dont_write_bytecode = True
+import rules
+from rules import Refusal, near
 
 MISSING = 2**32 - 1
 NO_VALUE = 2**64 - 1
 out = []
 
 
-def near(a, b):
-    return (2 * a + b) // (2 * b)
-
-
-# ---- document 01's rules
-
-def stretches(flows):
-    """First place and flows of each longest list of neighbouring present days."""
-    found, start = [], None
-    for place, flow in enumerate(flows + [None]):
-        if flow is not None and start is None:
-            start = place
-        if flow is None and start is not None:
-            found.append((start, flows[start:place]))
-            start = None
-    return found
-
-
-def weights(method, p, q):
-    return {
-        1: (2 * p, 10000 - p, 10000 - p, 20000),
-        2: (3 * p - 10000, 10000 - p, 10000 - p, 30000 - p),
-        3: (p, 10000 - p, 0, 20000 - p),
-        4: (p, q, 0, 10000 + q),
-        5: (p * (10000 - q), (10000 - p) * q, 0, 10**8 - p * q),
-        6: (p, 10000 - p, 0, 10000),
-    }[method]
-
-
-def one_pass(w, u, start):
-    A, B, C, d = w
-    f = [start]
-    for t in range(1, len(u)):
-        f.append(min(u[t], near(A * f[t - 1] + B * u[t] + C * u[t - 1], d)))
-    return f
-
-
-def parameter_range(method):
-    whole = range(1, 10000)
-    return {
-        1: (whole, range(1)), 2: (range(3334, 10000), range(1)), 3: (whole, range(1)),
-        4: (whole, range(1, 10001)), 5: (whole, whole), 6: (whole, range(1)),
-    }[method]
-
-
-def bad_setting(method, p, q):
-    if method not in range(1, 7):
-        return 11
-    ps, qs = parameter_range(method)
-    return 0 if p in ps and q in qs else 12
-
-
-def bad_lists(days, base):
-    if len(days) > 36525:
-        return 9
-    if len(days) != len(base):
-        return 14
-    return bad_days(days)
-
-
-def bad_days(days):
-    return 10 if any(10_000_000 < d < MISSING for d in days) else 0
-
+# ---- the calls over lists in memory, with their marks
 
 def views(days):
     return [None if d == MISSING else d for d in days]
 
 
+def marks(values):
+    return [NO_VALUE if v is None else v for v in values]
+
+
+def bad_days(days):
+    return Refusal(10) if any(rules.MOST_FLOW < d < MISSING for d in days) else None
+
+
+def bad_lists(days, base):
+    if len(days) > rules.MOST_DAYS:
+        return Refusal(9)
+    return Refusal(14) if len(days) != len(base) else bad_days(days)
+
+
 def filter_call(method, p, q, passes, days, base):
-    cause = bad_setting(method, p, q)
-    if not cause and (passes not in (1, 2, 3) or (passes > 1 and method != 1)):
-        cause = 13
-    cause = cause or bad_lists(days, base)
-    if cause:
-        return cause
-    values = [NO_VALUE] * len(days)
-    for start, flows in stretches(views(days)):
-        w = weights(method, p, q)
-        first = near(9 * q * flows[0], 100) if method == 5 else 500 * flows[0]
-        f = one_pass(w, [1000 * y for y in flows], first)
-        if passes >= 2:
-            f = one_pass(w, f[::-1], f[-1])[::-1]
-        if passes == 3:
-            f = one_pass(w, f, f[0])
-        values[start:start + len(f)] = f
-    base[:] = values
-    return 0
+    cause = rules.bad_setting(method, p, q) or rules.bad_passes(method, passes) or bad_lists(days, base)
+    if not cause:
+        base[:] = marks(rules.over_stretches(lambda y: rules.passes_over(near, method, p, q, passes, y), views(days)))
+    return cause
 
 
 def line_call(block_days, factor, days, base):
-    if block_days not in range(1, 31) or factor not in range(1, 10000):
-        return 16
-    cause = bad_lists(days, base)
-    if cause:
-        return cause
-    values, lines = [NO_VALUE] * len(days), 0
-    for start, y in stretches(views(days)):
-        lowest = []
-        for b in range(len(y) // block_days):
-            block = y[b * block_days:(b + 1) * block_days]
-            lowest.append(b * block_days + block.index(min(block)))
-        turning = [
-            j for i, j, k in zip(lowest, lowest[1:], lowest[2:])
-            if factor * y[j] < 10000 * y[i] and factor * y[j] < 10000 * y[k]
-        ]
-        for i, j in zip(turning, turning[1:]):
-            lines += 1
-            for t in range(i, j + 1):
-                values[start + t] = min(1000 * y[t], near(1000 * (y[i] * (j - t) + y[j] * (t - i)), j - i))
-    if not lines:
-        return 17
-    base[:] = values
-    return 0
+    cause = rules.bad_line(block_days, factor) or bad_lists(days, base) or rules.no_line(block_days, factor, views(days))
+    if not cause:
+        base[:] = marks(rules.over_stretches(lambda y: rules.line_over(near, block_days, factor, y), views(days)))
+    return cause
 
 
 def totals_call(days, base):
     cause = bad_lists(days, base)
-    if cause:
-        return cause, None
-    for d, b in zip(days, base):
-        if b != NO_VALUE and (d == MISSING or b > 1000 * d):
-            return 20, None
-    counted = [(d, b) for d, b in zip(days, base) if b != NO_VALUE]
-    Y, T = sum(d for d, _ in counted), sum(b for _, b in counted)
-    if Y == 0:
-        return 21, None
-    return 0, (len(counted), Y, T, 1000 * Y - T, near(10 * T, Y))
+    if not cause and any(b != NO_VALUE and (d == MISSING or b > 1000 * d) for d, b in zip(days, base)):
+        cause = Refusal(20)
+    return cause or rules.totals(views(days), [None if b == NO_VALUE else b for b in base])
 
 
 def ratios_call(limb_days, days, limbs):
-    if limb_days not in range(2, 61):
-        return 18, None
-    if len(days) > 36525:
-        return 9, None
-    if bad_days(days):
-        return 10, None
-    counted = []
-    for start, y in stretches(views(days)):
-        first = 0
-        for t in range(1, len(y) + 1):
-            if t == len(y) or y[t] >= y[t - 1]:
-                if t - first >= max(2, limb_days):
-                    counted.append((start + first, y[first:t]))
-                first = t
-    found = sorted(near(10000 * b, a) for _, y in counted for a, b in zip(y, y[1:]))
+    if not 2 <= limb_days <= 60:
+        return Refusal(18)
+    cause = Refusal(9) if len(days) > rules.MOST_DAYS else bad_days(days)
+    if cause:
+        return cause
+    counted = rules.counted_limbs(limb_days, views(days))
+    found = rules.ratios(counted)
     if not found:
-        return 19, None
+        return Refusal(19)
     if len(limbs) < 2 * len(counted):
-        return 22, None
-    for n, (place, y) in enumerate(counted):
-        limbs[2 * n:2 * n + 2] = [place, len(y)]
-    return 0, (len(found), found[(len(found) + 1) // 2 - 1])
+        return Refusal(22)
+    for n, (place, flows) in enumerate(counted):
+        limbs[2 * n:2 * n + 2] = [place, len(flows)]
+    return len(found), found[(len(found) + 1) // 2 - 1]
 
 
 def read_call(data, days):
-    first, stated, at = None, [], 0
-    while True:
-        if at == len(data):
-            return 1, None
-        kind = data[at]
-        if kind not in (1, 2, 3, 4, 9):
-            return 2, None
-        if (kind == 1) != (at == 0):
-            return 3, None
-        size = {1: 4, 2: 4, 3: 0, 4: 2, 9: 4}[kind]
-        body = data[at + 1:at + 1 + size]
-        if len(body) < size:
-            return 1, None
-        value = int.from_bytes(body, 'little')
-        at += 1 + size
-        if (kind == 1 and value > 99_999) or (kind == 2 and value > 10_000_000) or (kind == 4 and value == 0):
-            return 4, None
-        if kind == 9:
-            if value != len(stated):
-                return 7, None
-            if at != len(data):
-                return 8, None
-            days[:len(stated)] = stated
-            return 0, (first, len(stated))
-        if kind == 1:
-            first = value
-        new = {1: [], 2: [value], 3: [MISSING], 4: [MISSING] * value}[kind]
-        if len(stated) + len(new) > 36525:
-            return 5, None
-        if len(stated) + len(new) > len(days):
-            return 6, None
-        stated += new
+    answer = rules.read(data, len(days))
+    if isinstance(answer, Refusal):
+        return answer
+    first, stated = answer
+    days[:len(stated)] = [MISSING if d is None else d for d in stated]
+    return first, len(stated)
 
 
 # ---- the rivers
@@ -252,49 +133,49 @@ def base_text(base):
     return words(', base', check_sum(base), base[0], base[len(base) // 2], base[-1])
 
 
-def answer(cause, accepted):
-    return words(': refused', cause) if cause else accepted
+def answer(result, accepted):
+    """A refusal and its number, or the word for an accepted call and its values, if it has any."""
+    return words(': refused', result) if isinstance(result, Refusal) else words(': ' + accepted, *(result or ()))
 
 
 def show_filter(method, p, q, passes, days, base):
     cause = filter_call(method, p, q, passes, days, base)
-    out.append(words('filter', method, p, q, passes) + answer(cause, ': accepted') + base_text(base))
+    out.append(words('filter', method, p, q, passes) + answer(cause, 'accepted') + base_text(base))
 
 
 def show_line(block_days, factor, days, base):
     cause = line_call(block_days, factor, days, base)
-    out.append(words('line', block_days, factor) + answer(cause, ': accepted') + base_text(base))
+    out.append(words('line', block_days, factor) + answer(cause, 'accepted') + base_text(base))
 
 
 def show_totals(days, base):
-    cause, values = totals_call(days, base)
-    out.append('totals' + answer(cause, words(': summed', *(values or ()))))
-    return values
+    result = totals_call(days, base)
+    out.append('totals' + answer(result, 'summed'))
+    return result
 
 
 def show_ratios(limb_days, days, limbs):
-    cause, values = ratios_call(limb_days, days, limbs)
-    pairs = zip(limbs[::2], limbs[1::2])
-    total = sum(mixed(a, b) for a, b in pairs) % MODULUS
-    out.append(words('ratios', limb_days) + answer(cause, words(': found', *(values or ()))) + words(', limbs', total))
-    return values
+    result = ratios_call(limb_days, days, limbs)
+    total = sum(mixed(a, b) for a, b in zip(limbs[::2], limbs[1::2])) % MODULUS
+    out.append(words('ratios', limb_days) + answer(result, 'found') + words(', limbs', total))
+    return result
 
 
 def show_read(data, days):
-    cause, values = read_call(data, days)
-    out.append(words('read', len(data)) + answer(cause, words(': stated', *(values or ()))) + words(', days', check_sum(days)))
+    result = read_call(data, days)
+    out.append(words('read', len(data)) + answer(result, 'stated') + words(', days', check_sum(days)))
 
 
 def show_steps(method, p, q, days):
     base = [0] * len(days)
-    assert filter_call(method, p, q, 1, days, base) == 0    # steps from a fresh state give pass 1
+    assert filter_call(method, p, q, 1, days, base) is None    # steps from a fresh state give pass 1
     out.append(words('steps', method, check_sum(base)))
 
 
 def show_step(flow, base, method, p, day):
-    cause = bad_setting(method, p, 0)
-    if not cause and (flow > 10_000_000 or base > 1000 * flow):
-        cause = 15
+    cause = rules.bad_setting(method, p, 0)
+    if not cause and (flow > rules.MOST_FLOW or base > 1000 * flow):
+        cause = Refusal(15)
     cause = cause or bad_days([day])
     assert cause
     out.append(words('step: refused', cause))

@@ -1,5 +1,5 @@
 #!/usr/bin/env python3
-"""Checks what the program `separate` writes against document 01's rules, worked out here anew.
+"""Checks what the program `separate` writes against document 01's rules (tests/rules.py).
 
     tests/separate.py [target/bin/separate]
 
@@ -14,84 +14,33 @@ import subprocess
 import sys
 import tempfile
 
+sys.dont_write_bytecode = True
+from rules import LAST_FIRST_DAY, MOST_DAYS, MOST_FLOW, Refusal, near, over_stretches, passes_over, read, totals
+
 PROGRAM = "target/bin/separate"
-MOST_BYTES, MOST_DAYS, SPACE = 32768, 36525, 2048
-MOST_FLOW, LAST_FIRST_DAY = 10_000_000, 99_999
-P = 9250
+MOST_BYTES, SPACE = 32768, 2048
 SAMPLE = bytes.fromhex("01000000000264000000 02C800000003 0232000000 0904000000")
 SAMPLE_FILE = os.path.join(os.path.dirname(os.path.abspath(__file__)), "../samples/sample.record")
 SAMPLE_TEXT = b"day flow base\n0 100 50.000\n1 200 57.500\n2 missing\n3 50 25.000\nindex 0.3786\n"
-
-
-def near(a, b):
-    return (2 * a + b) // (2 * b)
-
-
-# document 01, "The record": the first day and the days, None for a missing one, or the number of the refusal
-def read(record):
-    first_day, days, at = None, [], 0
-    bodies = {1: 4, 2: 4, 3: 0, 4: 2, 9: 4}
-    while at < len(record):
-        kind = record[at]
-        if kind not in bodies:
-            return 2
-        if (at == 0) != (kind == 1):
-            return 3
-        body = record[at + 1:at + 1 + bodies[kind]]
-        if len(body) < bodies[kind]:
-            return 1
-        value = int.from_bytes(body, "little")
-        at += 1 + len(body)
-        if kind == 1 and value > LAST_FIRST_DAY or kind == 2 and value > MOST_FLOW or kind == 4 and value == 0:
-            return 4
-        stated = [value] if kind == 2 else [None] * {3: 1, 4: value}.get(kind, 0)
-        if len(days) + len(stated) > MOST_DAYS:
-            return 5
-        if len(days) + len(stated) > SPACE:
-            return 6
-        if kind == 1:
-            first_day = value
-        if kind == 9:
-            if value != len(days):
-                return 7
-            return 8 if at < len(record) else (first_day, days)
-        days += stated
-    return 1
-
-
-# document 01, "Filters": method 1, one pass, each stretch alone
-def base_flow(days):
-    base, before = [], None
-    for flow in days:
-        if flow is None:
-            base.append(None)
-        elif before is None:
-            base.append(500 * flow)
-        else:
-            mean = near(2 * P * base[-1] + (10000 - P) * 1000 * (flow + before), 20000)
-            base.append(min(1000 * flow, mean))
-        before = flow
-    return base
 
 
 # document 01, "The program `separate`"
 def text(record):
     if len(record) > MOST_BYTES:
         return "too long\n"
-    answer = read(record)
-    if isinstance(answer, int):
+    answer = read(record, SPACE)
+    if isinstance(answer, Refusal):
         return f"refused {answer}\n"
     first_day, days = answer
-    base = base_flow(days)
+    base = over_stretches(lambda flows: passes_over(near, 1, 9250, 0, 1, flows), days)
     lines = ["day flow base"]
     for day, (flow, value) in enumerate(zip(days, base), first_day):
         lines.append(f"{day} missing" if flow is None else f"{day} {flow} {value // 1000}.{value % 1000:03}")
-    total = sum(flow for flow in days if flow is not None)
-    if total:
-        index = near(10 * sum(value for value in base if value is not None), total)
-        lines.append(f"index {index // 10000}.{index % 10000:04}")
-    else:
+    summed = totals(days, base)
+    if isinstance(summed, Refusal):
         lines.append("index none")
+    else:
+        lines.append(f"index {summed[4] // 10000}.{summed[4] % 10000:04}")
     return "\n".join(lines) + "\n"
 
 

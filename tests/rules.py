@@ -1,0 +1,188 @@
+"""Document 01's rules in python, for the tests; nothing is shared with the engine.
+
+Whole numbers of any size; a missing day and a day without a value are None. `over` divides: near for the rounded run,
+Fraction for the exact one. A call answers its values, or the number of its refusal as a Refusal.
+"""
+
+MOST_DAYS, MOST_FLOW, LAST_FIRST_DAY = 36525, 10_000_000, 99_999
+BODIES = {1: 4, 2: 4, 3: 0, 4: 2, 9: 4}
+
+
+class Refusal(int):
+    """The number of a refusal."""
+
+
+def near(a, b):
+    return (2 * a + b) // (2 * b)
+
+
+# "The record"
+def read(data, room):
+    """The first day and the stated days."""
+    first, days, at = None, [], 0
+    while at < len(data):
+        kind = data[at]
+        if kind not in BODIES:
+            return Refusal(2)
+        if (kind == 1) != (at == 0):
+            return Refusal(3)
+        body = data[at + 1:at + 1 + BODIES[kind]]
+        if len(body) < BODIES[kind]:
+            return Refusal(1)
+        value = int.from_bytes(body, "little")
+        at += 1 + len(body)
+        if kind == 1 and value > LAST_FIRST_DAY or kind == 2 and value > MOST_FLOW or kind == 4 and value == 0:
+            return Refusal(4)
+        stated = [value] if kind == 2 else [None] * {3: 1, 4: value}.get(kind, 0)
+        if len(days) + len(stated) > MOST_DAYS:
+            return Refusal(5)
+        if len(days) + len(stated) > room:
+            return Refusal(6)
+        if kind == 1:
+            first = value
+        if kind == 9:
+            if value != len(days):
+                return Refusal(7)
+            return Refusal(8) if at < len(data) else (first, days)
+        days += stated
+    return Refusal(1)
+
+
+def record(first, days):
+    """The record of some days, with a run of missing ones as one entry."""
+    parts, t = [b"\x01" + first.to_bytes(4, "little")], 0
+    while t < len(days):
+        if days[t] is not None:
+            parts.append(b"\x02" + days[t].to_bytes(4, "little"))
+            t += 1
+            continue
+        start = t
+        while t < len(days) and days[t] is None:
+            t += 1
+        parts.append(b"\x03" if t - start == 1 else b"\x04" + (t - start).to_bytes(2, "little"))
+    parts.append(b"\x09" + len(days).to_bytes(4, "little"))
+    return b"".join(parts)
+
+
+# "Filters"
+def stretches(days):
+    """The first place and the flows of each longest list of neighbouring present days."""
+    found, start = [], None
+    for place, flow in enumerate([*days, None]):
+        if flow is not None and start is None:
+            start = place
+        if flow is None and start is not None:
+            found.append((start, days[start:place]))
+            start = None
+    return found
+
+
+def over_stretches(rule, days):
+    """A rule on each stretch alone; missing days get no value."""
+    values = [None] * len(days)
+    for start, flows in stretches(days):
+        values[start:start + len(flows)] = rule(flows)
+    return values
+
+
+def weights(method, p, q):
+    """A, B, C and d."""
+    return {
+        1: (2 * p, 10000 - p, 10000 - p, 20000),
+        2: (3 * p - 10000, 10000 - p, 10000 - p, 30000 - p),
+        3: (p, 10000 - p, 0, 20000 - p),
+        4: (p, q, 0, 10000 + q),
+        5: (p * (10000 - q), (10000 - p) * q, 0, 10**8 - p * q),
+        6: (p, 10000 - p, 0, 10000),
+    }[method]
+
+
+def one_pass(over, w, u, start):
+    A, B, C, d = w
+    f = [start]
+    for today, before in zip(u[1:], u):
+        f.append(min(today, over(A * f[-1] + B * today + C * before, d)))
+    return f
+
+
+def passes_over(over, method, p, q, passes, flows):
+    """The filter of one stretch."""
+    w = weights(method, p, q)
+    first = over(9 * q * flows[0], 100) if method == 5 else 500 * flows[0]
+    f = one_pass(over, w, [1000 * y for y in flows], first)
+    for n in range(2, passes + 1):
+        u = f[::-1] if n == 2 else f
+        f = one_pass(over, w, u, u[0])
+        f = f[::-1] if n == 2 else f
+    return f
+
+
+def bad_setting(method, p, q):
+    """11 or 12, or None."""
+    if not 1 <= method <= 6:
+        return Refusal(11)
+    least_p, most_q = 3334 if method == 2 else 1, {4: 10000, 5: 9999}.get(method, 0)
+    if not least_p <= p <= 9999 or not (1 if most_q else 0) <= q <= most_q:
+        return Refusal(12)
+    return None
+
+
+def bad_passes(method, passes):
+    return None if 1 <= passes <= (3 if method == 1 else 1) else Refusal(13)
+
+
+# "Block-minima line"
+def turning_days(block_days, factor, flows):
+    lowest = []
+    for start in range(0, len(flows) - block_days + 1, block_days):
+        block = flows[start:start + block_days]
+        lowest.append(start + block.index(min(block)))
+    return [
+        j for i, j, k in zip(lowest, lowest[1:], lowest[2:])
+        if factor * flows[j] < 10000 * flows[i] and factor * flows[j] < 10000 * flows[k]
+    ]
+
+
+def line_over(over, block_days, factor, flows):
+    """The line of one stretch."""
+    values, turns = [None] * len(flows), turning_days(block_days, factor, flows)
+    for i, j in zip(turns, turns[1:]):
+        for t in range(i, j + 1):
+            straight = over(1000 * (flows[i] * (j - t) + flows[j] * (t - i)), j - i)
+            values[t] = min(1000 * flows[t], straight)
+    return values
+
+
+def bad_line(block_days, factor):
+    return None if 1 <= block_days <= 30 and 1 <= factor <= 9999 else Refusal(16)
+
+
+def no_line(block_days, factor, days):
+    few = all(len(turning_days(block_days, factor, flows)) < 2 for _, flows in stretches(days))
+    return Refusal(17) if few else None
+
+
+# "Totals and index"
+def totals(days, base):
+    """m, Y, T, quick total and index of days and base values that pass their checks."""
+    counted = [(y, b) for y, b in zip(days, base) if b is not None]
+    Y, T = sum(y for y, _ in counted), sum(b for _, b in counted)
+    return Refusal(21) if Y == 0 else (len(counted), Y, T, 1000 * Y - T, near(10 * T, Y))
+
+
+# "Recession ratios"
+def counted_limbs(limb_days, days):
+    """The first place and the flows of each limb that counts."""
+    counted = []
+    for start, flows in stretches(days):
+        first = 0
+        for t in range(1, len(flows) + 1):
+            if t == len(flows) or flows[t] >= flows[t - 1]:
+                if t - first >= max(2, limb_days):
+                    counted.append((start + first, flows[first:t]))
+                first = t
+    return counted
+
+
+def ratios(limbs):
+    return sorted(near(10000 * b, a) for _, flows in limbs for a, b in zip(flows, flows[1:]))
