@@ -17,10 +17,11 @@ import tempfile
 sys.dont_write_bytecode = True
 from rules import LAST_FIRST_DAY, MOST_DAYS, MOST_FLOW, Refusal, near, over_stretches, passes_over, read, totals
 
-PROGRAM = "target/bin/separate"
+ROOT = os.path.join(os.path.dirname(os.path.abspath(__file__)), "..")
+PROGRAM = os.path.join(ROOT, "target/bin/separate")
 MOST_BYTES, SPACE = 32768, 2048
 SAMPLE = bytes.fromhex("01000000000264000000 02C800000003 0232000000 0904000000")
-SAMPLE_FILE = os.path.join(os.path.dirname(os.path.abspath(__file__)), "../samples/sample.record")
+SAMPLE_FILE = os.path.join(ROOT, "samples/sample.record")
 SAMPLE_TEXT = b"day flow base\n0 100 50.000\n1 200 57.500\n2 missing\n3 50 25.000\nindex 0.3786\n"
 
 
