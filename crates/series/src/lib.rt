@@ -4,7 +4,7 @@ ghost use mathlib.Core.Path.{_≡_};
 ghost use mathlib.Core.Bool.{_||_};
 ghost use Rattle.series.specs.Units.{isInvalidDay, dayOf, baseOf};
 ghost use Rattle.series.specs.Causes.{refusalNumber, refusalOf, firstCause};
-ghost use Rattle.series.specs.Lists.{tooLong, lengthsDiffer, anyInvalidDay, isInvalidBase, anyInvalidBase, listCauses};
+ghost use Rattle.series.specs.Lists.{tooLong, lengthsDiffer, anyInvalidDay, isInvalidBase, listCauses};
 
 // The most days that a list may have.
 pub const DAY_LIMIT: usize = 36_525;
@@ -144,7 +144,7 @@ pub fn any_invalid_day(days: &[u32]) -> bool
     invalid
 }
 
-// A base value on a missing day, or above 1000 × the day's flow.
+// 20, of one day: a base value on a missing day, or above 1000 × the day's flow.
 pub fn is_invalid_base(day: u32, base: u64) -> bool
     ensures { λ r. ⌜ r ≡ isInvalidBase (dayOf day) (baseOf base) ⌝ }
 {
@@ -155,20 +155,6 @@ pub fn is_invalid_base(day: u32, base: u64) -> bool
         return true;
     }
     1000 * (day as u64) < base
-}
-
-// 20: that on some day of two lists.
-pub fn any_invalid_base(days: &[u32], base: &[u64]) -> bool
-    ensures { λ r. ⌜ r ≡ anyInvalidBase (now (days .entry)) (now (base .entry)) ⌝ }
-{
-    let n = numbers::least(days.len(), base.len());
-    let mut invalid = false;
-    let mut i = 0;
-    while i < n {
-        invalid = either(invalid, is_invalid_base(days[i], base[i]));
-        i += 1;
-    }
-    invalid
 }
 
 // The checks of a day list and a base list, in the order that filters, minima line and totals share: 9, 14, 10.

@@ -1,10 +1,9 @@
 -- Sums over the days with a base value: what one day adds, and what valid lists bound.
 -- Assumes nothing.
-use Prim.Native.Nat.{ℕ, zero, suc, _+_, _*_, _≤_, _<_}
+use Prim.Native.Nat.{ℕ, _+_, _*_, _≤_, _<_}
 use mathlib.Core.Path.{_≡_, refl, sym, _∙_, ap, subst}
-use mathlib.Core.Bool.{true, false, true≢false}
+use mathlib.Core.Bool.{Bool, true, false, cond, _||_, true≢false}
 use mathlib.Core.List.{List, [], _∷_, map}
-use mathlib.Core.Logic.{⊎-elim}
 use mathlib.Core.Option.{Option, none, some, Option·none-ne-some, Option·some-injective}
 use native.Mathlib.Numerals.{add-one}
 use native.Mathlib.Omega.{arith}
@@ -12,14 +11,14 @@ use lib.ListN.{length, getD, drop, drop-of-length-le}
 use lib.Seq.{drop-cons}
 use borrow.Author.Tests.{ltb-false}
 use Rattle.numbers.specs.Arithmetic.{rounded}
-use Rattle.series.specs.Units.{flowLimit, dayLimit, noValueMark, missingMark, isInvalidDay, dayOf, baseOf}
-use Rattle.series.specs.Lists.{tooLong, isInvalidBase, anyInvalidBase}
-use Rattle.series.proofs.Views.{base-none, base-value, day-missing, day-present, neither-of, valid-day, valid-at}
-use Rattle.series.proofs.Refusing.{Sound}
+use lib.Dec.{eqb}
+use Rattle.series.specs.Units.{dayLimit, noValueMark, missingMark, isMissing, dayOf, baseOf}
+use Rattle.series.specs.Lists.{isInvalidBase, anyInvalidBase}
+use Rattle.series.proofs.Views.{base-none, base-value, day-missing, day-present, neither-of}
 use Rattle.totals.specs.declared.Tally.{Tally}
 use Rattle.totals.specs.Sums.{BaseDay, baseDays, flowTotal, baseTotal}
 use Rattle.totals.specs.Totalling.{listedDays}
-use Rattle.totals.specs.Adding.{addDay, Room, SumsOf, dayCounted, flowCounted, baseCounted}
+use Rattle.totals.specs.Adding.{addDay, Room, OneMore, SumsOf, dayCounted, flowCounted, baseCounted}
 
 -- a valid base value stands on a present day, and is at most its flow
 none-on-missing : (b : ℕ) → isInvalidBase none (some b) ≡ false → ⊥
@@ -52,17 +51,28 @@ module _ (d b : ℕ) where
   unfolding flowCounted
   present-counted e h = rw (base-value b e, day-present d (on-present-day e h .0))
 
--- what a valid day counts with is little
-pub record Little (o p : Option ℕ) : Type 0 where
+-- what a valid day counts with is at most one day, its flow, and 1000 × that
+pub record Little (d : ℕ) (o p : Option ℕ) : Type 0 where
   pub day : dayCounted p ≤ 1
-  pub flow : flowCounted o p ≤ flowLimit
-  pub base : baseCounted p ≤ 1000 * flowLimit
+  pub flow : flowCounted o p ≤ d
+  pub base : baseCounted p ≤ 1000 * d
 
-little : (o p : Option ℕ) → ((y : ℕ) → o ≡ some y → y ≤ flowLimit) → isInvalidBase o p ≡ false → Little o p
+little : (d : ℕ) (o p : Option ℕ) → ((y : ℕ) → o ≡ some y → y ≤ d) → isInvalidBase o p ≡ false → Little d o p
 unfolding dayCounted flowCounted baseCounted
-little o none l h = record { day = omega arith; flow = omega arith; base = omega arith }
-little none (some b) l h = absurd (none-on-missing b h)
-little (some y) (some b) l h = record { day = omega arith; flow = omega (arith, l y refl); base = omega (arith, l y refl, at-flow y b h) }
+little d o none l h = record { day = omega arith; flow = omega arith; base = omega arith }
+little d none (some b) l h = absurd (none-on-missing b h)
+little d (some y) (some b) l h = record { day = omega arith; flow = l y refl; base = omega (arith, l y refl, at-flow y b h) }
+
+seen-at-most : (d y : ℕ) → dayOf d ≡ some y → y ≤ d
+unfolding dayOf isMissing
+seen-at-most d y e = by-test (eqb d missingMark) e
+  where
+    by-test : (m : Bool) → cond m none (some d) ≡ some y → y ≤ d
+    by-test true e = absurd (Option·none-ne-some y e)
+    by-test false e = omega (arith, Option·some-injective d y e)
+
+pub little-counted : (d b : ℕ) → isInvalidBase (dayOf d) (baseOf b) ≡ false → Little d (dayOf d) (baseOf b)
+little-counted d b h = little d (dayOf d) (baseOf b) (seen-at-most d) h
 
 -- what a day adds to the sums is what it adds to the lists
 pub record Adds (t t′ : Tally) (before after : List (BaseDay ℕ)) : Type 0 where
@@ -76,22 +86,6 @@ adds t o none ds bs h = omega arith
 adds t none (some b) ds bs h = absurd (none-on-missing b h)
 adds t (some y) (some b) ds bs h = omega arith
 
-valid-pair : (ds bs : List ℕ) (i : ℕ) → anyInvalidBase ds bs ≡ false → i < length ds → i < length bs → isInvalidBase (dayOf (getD ds i 0)) (baseOf (getD bs i 0)) ≡ false
-unfolding anyInvalidBase
-valid-pair [] bs i e h k = absurd (omega arith)
-valid-pair (d ∷ ds) [] i e h k = absurd (omega arith)
-valid-pair (d ∷ ds) (b ∷ bs) zero e h k = neither-of (isInvalidBase (dayOf d) (baseOf b)) (anyInvalidBase ds bs) e .0
-valid-pair (d ∷ ds) (b ∷ bs) (suc i) e h k = valid-pair ds bs i (neither-of (isInvalidBase (dayOf d) (baseOf b)) (anyInvalidBase ds bs) e .1) (omega arith) (omega arith)
-
--- a present day's flow is within its limit
-flow-limit : (d : ℕ) → isInvalidDay d ≡ false → (y : ℕ) → dayOf d ≡ some y → y ≤ flowLimit
-flow-limit d v y e =
-    ⊎-elim (λ l. subst (λ n. n ≤ flowLimit) (Option·some-injective d y (sym (day-present d (λ m. absurd (omega arith))) ∙ e)) l)
-    (λ m. absurd (Option·none-ne-some y (sym (day-missing d m) ∙ e))) (valid-day d v)
-
-pub little-counted : (d b : ℕ) → isInvalidDay d ≡ false → isInvalidBase (dayOf d) (baseOf b) ≡ false → Little (dayOf d) (baseOf b)
-little-counted d b v h = little (dayOf d) (baseOf b) (flow-limit d v) h
-
 -- the loop
 module _ (ds bs : List ℕ) where
   abbrev rest : ℕ → List (BaseDay ℕ)
@@ -102,57 +96,59 @@ module _ (ds bs : List ℕ) where
 
   pub record Summed (t : Tally) (i : ℕ) : Type 0 where
     pub within : i ≤ length ds
+    pub valid : anyInvalidBase ds bs ≡ anyInvalidBase (drop i ds) (drop i bs)
     pub days : t .days + length (rest i) ≡ length all
     pub flow : t .flow + flowTotal (rest i) ≡ flowTotal all
     pub base : t .base + baseTotal rounded (rest i) ≡ baseTotal rounded all
     pub few : t .days ≤ i
-    pub small-flow : t .flow ≤ flowLimit * i
-    pub small-base : t .base ≤ 1000 * flowLimit * i
+    pub small-flow : t .flow ≤ 4294967295 * i
+    pub small-base : t .base ≤ 4294967295000 * i
 
   pub sums-start : {t : Tally} → t .days ≡ 0 → t .flow ≡ 0 → t .base ≡ 0 → Summed t 0
-  sums-start e f g = record { within = omega arith; days = omega arith; flow = omega arith; base = omega arith; few = omega arith; small-flow = omega arith; small-base = omega arith }
+  sums-start e f g =
+      record { within = omega arith; valid = refl; days = omega arith; flow = omega arith; base = omega arith; few = omega arith; small-flow = omega arith; small-base = omega arith }
 
-  module _ (s : Sound ds bs) (valid : anyInvalidBase ds bs ≡ false) where
-    few-days : length ds ≤ dayLimit
-    unfolding tooLong
-    few-days = ltb-false dayLimit (length ds) (s .not-long)
-
+  module _ (same : length ds ≡ length bs) (short : length ds ≤ dayLimit) where
     pub has-room : {t : Tally} {i : ℕ} → Summed t i → Room t
-    has-room r = record { days = omega (arith, few-days, r .few, r .within); flow = omega (arith, few-days, r .small-flow, r .within); base = omega (arith, few-days, r .small-base, r .within) }
+    has-room r = record { days = omega (arith, short, r .few, r .within); flow = omega (arith, short, r .small-flow, r .within); base = omega (arith, short, r .small-base, r .within) }
+
+    next-test : (i : ℕ) → i < length ds → anyInvalidBase (drop i ds) (drop i bs) ≡ (isInvalidBase (dayOf (getD ds i 0)) (baseOf (getD bs i 0)) || anyInvalidBase (drop (i + 1) ds) (drop (i + 1) bs))
+    unfolding anyInvalidBase
+    next-test i h = let k : i < length bs = omega (arith, same) in rw (add-one, drop-cons ds i 0, drop-cons bs i 0)
 
     next-rest : (i : ℕ) → i < length ds → rest i ≡ baseDays (dayOf (getD ds i 0) ∷ map dayOf (drop (i + 1) ds)) (baseOf (getD bs i 0) ∷ map baseOf (drop (i + 1) bs))
-    next-rest i h = let k : i < length bs = omega (arith, s .same-length) in rw (add-one, drop-cons ds i 0, drop-cons bs i 0)
+    next-rest i h = let k : i < length bs = omega (arith, same) in rw (add-one, drop-cons ds i 0, drop-cons bs i 0)
 
-    pub valid-base-at : (i : ℕ) → i < length ds → isInvalidBase (dayOf (getD ds i 0)) (baseOf (getD bs i 0)) ≡ false
-    valid-base-at i h = valid-pair ds bs i valid h (omega (arith, s .same-length))
+    pub found-invalid : {t : Tally} {i : ℕ} {b : Bool} → i < length ds → b ≡ isInvalidBase (dayOf (getD ds i 0)) (baseOf (getD bs i 0)) → b ≡ true → Summed t i → anyInvalidBase ds bs ≡ true
+    found-invalid {i = i} h e f r = r .valid ∙ next-test i h ∙ ap (λ x. x || anyInvalidBase (drop (i + 1) ds) (drop (i + 1) bs)) (sym e ∙ f)
 
-    pub sums-turn : {t t′ : Tally} {i : ℕ} → i < length ds → t′ ≡ addDay t (dayOf (getD ds i 0)) (baseOf (getD bs i 0)) → Summed t i → Summed t′ (i + 1)
-    unfolding addDay
-    sums-turn {t} {t′} {i} h e r =
+    pub sums-turn : {t t′ : Tally} {i : ℕ} → i < length ds → isInvalidBase (dayOf (getD ds i 0)) (baseOf (getD bs i 0)) ≡ false → (t′ ≡ addDay t (dayOf (getD ds i 0)) (baseOf (getD bs i 0))) × OneMore t t′ → Summed t i → Summed t′ (i + 1)
+    sums-turn {t} {t′} {i} h v e r =
         let n = next-rest i h in
-        let a = adds t (dayOf (getD ds i 0)) (baseOf (getD bs i 0)) (map dayOf (drop (i + 1) ds)) (map baseOf (drop (i + 1) bs)) (valid-base-at i h) in
-        let l = little-counted (getD ds i 0) (getD bs i 0) (valid-at ds i (s .valid) h) (valid-base-at i h) in
-        subst (λ x. Summed x (i + 1)) (sym e)
-        (record {
+        let a = subst (λ x. Adds t x (baseDays (dayOf (getD ds i 0) ∷ map dayOf (drop (i + 1) ds)) (baseOf (getD bs i 0) ∷ map baseOf (drop (i + 1) bs))) (rest (i + 1))) (sym (e .0)) (adds t (dayOf (getD ds i 0)) (baseOf (getD bs i 0)) (map dayOf (drop (i + 1) ds)) (map baseOf (drop (i + 1) bs)) v) in
+        record {
           within = omega arith;
+          valid = r .valid ∙ next-test i h ∙ ap (λ x. x || anyInvalidBase (drop (i + 1) ds) (drop (i + 1) bs)) v;
           days = a .days ∙ ap (λ l. t .days + length l) (sym n) ∙ r .days;
           flow = a .flow ∙ ap (λ l. t .flow + flowTotal l) (sym n) ∙ r .flow;
           base = a .base ∙ ap (λ l. t .base + baseTotal rounded l) (sym n) ∙ r .base;
-          few = omega (arith, l .day, r .few);
-          small-flow = omega (arith, l .flow, r .small-flow);
-          small-base = omega (arith, l .base, r .small-base);
-        })
-
-    pub sums-end : {t : Tally} {i : ℕ} → length ds ≤ i → Summed t i → SumsOf all t
-    unfolding baseDays flowTotal baseTotal
-    sums-end {t} {i} h r =
-        let none-left : rest i ≡ [] = rw (drop-of-length-le ds h) in
-        record {
-          days = omega (arith, r .days, ap length none-left);
-          flow = omega (arith, r .flow, ap flowTotal none-left);
-          base = omega (arith, r .base, ap (baseTotal rounded) none-left);
-          room = has-room r;
+          few = omega (arith, e .1 .days, r .few);
+          small-flow = omega (arith, e .1 .flow, r .small-flow);
+          small-base = omega (arith, e .1 .base, r .small-base);
         }
+
+    pub sums-end : {t : Tally} {i : ℕ} → length ds ≤ i → Summed t i → (anyInvalidBase ds bs ≡ false) × SumsOf all t
+    unfolding anyInvalidBase baseDays flowTotal baseTotal
+    sums-end {t} {i} h r =
+        let none-left : rest i ≡ [] = rw (drop-of-length-le ds h) in (
+          rw (drop-of-length-le ds h) at (r .valid),
+          record {
+            days = omega (arith, r .days, ap length none-left);
+            flow = omega (arith, r .flow, ap flowTotal none-left);
+            base = omega (arith, r .base, ap (baseTotal rounded) none-left);
+            room = has-room r;
+          },
+        )
 
 -- what the totals of valid lists are
 pub base-at-most : (ds bs : List ℕ) → anyInvalidBase ds bs ≡ false → baseTotal rounded (listedDays ds bs) ≤ 1000 * flowTotal (listedDays ds bs)

@@ -26,11 +26,17 @@ baseCounted (some b) = b
 unfoldable pub addDay : Tally → (day base : Option ℕ) → Tally
 addDay t day base = record { days = t .days + dayCounted base; flow = t .flow + flowCounted day base; base = t .base + baseCounted base }
 
--- sums that leave room for one day more
+-- sums that leave room for one day more, whatever a u32 holds for a day
 pub record Room (t : Tally) : Type 0 where
   pub days : t .days ≤ 36525
-  pub flow : t .flow ≤ 365250000000
-  pub base : t .base ≤ 365250000000000
+  pub flow : t .flow ≤ 156873680449875
+  pub base : t .base ≤ 156873680449875000
+
+-- sums that are at most one such day larger
+pub record OneMore (t t′ : Tally) : Type 0 where
+  pub days : t′ .days ≤ t .days + 1
+  pub flow : t′ .flow ≤ t .flow + 4294967295
+  pub base : t′ .base ≤ t .base + 4294967295000
 
 -- the sums of some days
 pub record SumsOf (ds : List (BaseDay ℕ)) (t : Tally) : Type 0 where

@@ -5,13 +5,13 @@ ghost use mathlib.Core.Path.{_≡_};
 ghost use Prim.Native.Nat.{_*_, _-_, _≤_};
 ghost use mathlib.Core.Bool.{false};
 ghost use mathlib.Core.Option.{orElse};
-ghost use Rattle.series.specs.Units.{dayOf, baseOf, isInvalidDay};
-ghost use Rattle.series.specs.Lists.{isInvalidBase, anyInvalidBase};
-ghost use Rattle.series.specs.Causes.{refusalOf, firstCause};
-ghost use Rattle.series.proofs.Refusing.{Sound};
-ghost use Rattle.totals.specs.Totalling.{listedDays, totalsOutcome, outcomeOf};
-ghost use Rattle.totals.specs.Adding.{addDay, Room, SumsOf, dayCounted, flowCounted, baseCounted};
-ghost use Rattle.totals.specs.Checking.{checkCauses, baseCauses};
+ghost use lib.ListN.{length};
+ghost use Rattle.series.specs.Units.{dayOf, baseOf, dayLimit};
+ghost use Rattle.series.specs.Lists.{isInvalidBase};
+ghost use Rattle.series.specs.Causes.{refusalOf};
+ghost use Rattle.totals.specs.Totalling.{totalsOutcome, outcomeOf};
+ghost use Rattle.totals.specs.Adding.{addDay, Room, OneMore, dayCounted, flowCounted, baseCounted};
+ghost use Rattle.totals.specs.Finding.{FoundIn, Bounded, refusalFound, outcomeFound, outcomeOfSums};
 
 // The totals over the days with a base value.
 pub struct Totals {
@@ -39,15 +39,64 @@ struct Tally {
     base: u64,
 }
 
+// What the walk over two lists comes to.
+enum Found {
+    Sums(Tally),
+    InvalidBase,
+}
+
 // Number of days with a base value, flow, base and quick total, and the index, of a day list and its base list.
 pub fn total(days: &[u32], base: &[u64]) -> Answer
     ensures { λ r. ⌜ outcomeOf r ≡ totalsOutcome (now (days .entry)) (now (base .entry)) ⌝ }
 {
-    let verdict = check(days, base);
+    let lists = series::check_lists(days, base);
+    let both = numbers::least(days.len(), base.len());
+    let n = numbers::least(both, series::DAY_LIMIT);
+    let found = sums(&days[..n], &base[..n]);
+    let values = check_base(found);
+    let verdict = earlier(lists, values);
     if let Verdict::Refused(refusal) = verdict {
         return Answer::Refused(refusal);
     }
-    let t = sums(days, base);
+    from_found(found)
+}
+
+// 20: a base value on a missing day or above 1000 × the day's flow.
+fn check_base(found: Found) -> Verdict
+    ensures { λ r. ⌜ refusalOf r ≡ refusalFound found ⌝ }
+{
+    match found {
+        Found::InvalidBase => Verdict::Refused(Refusal::InvalidBase),
+        Found::Sums(_) => Verdict::Accepted,
+    }
+}
+
+// The first of two verdicts that refuses.
+fn earlier(first: Verdict, second: Verdict) -> Verdict
+    ensures { λ r. ⌜ refusalOf r ≡ orElse (refusalOf first) (refusalOf second) ⌝ }
+{
+    if let Verdict::Refused(refusal) = first {
+        return Verdict::Refused(refusal);
+    }
+    second
+}
+
+// The answer from what was found in two lists that have passed their checks.
+fn from_found(found: Found) -> Answer
+    requires { ⌜ Bounded found ⌝ }
+    ensures { λ r. ⌜ outcomeOf r ≡ outcomeFound found ⌝ }
+{
+    match found {
+        Found::InvalidBase => Answer::Refused(Refusal::InvalidBase),
+        Found::Sums(tally) => totals_of(tally),
+    }
+}
+
+// The totals from the sums, unless Y is 0.
+fn totals_of(t: Tally) -> Answer
+    requires { ⌜ Room t × (t .base ≤ 1000 * t .flow) ⌝ }
+    ensures { λ r. ⌜ outcomeOf r ≡ outcomeOfSums t ⌝ }
+{
     if t.flow == 0 {
         return Answer::Refused(Refusal::NoFlow);
     }
@@ -62,47 +111,18 @@ pub fn total(days: &[u32], base: &[u64]) -> Answer
     })
 }
 
-// The checks of the two lists, 9, 14 and 10, and then that of the base values, 20.
-fn check(days: &[u32], base: &[u64]) -> Verdict
-    ensures { λ r. ⌜ refusalOf r ≡ firstCause (checkCauses (now (days .entry)) (now (base .entry))) ⌝ }
-{
-    let lists = series::check_lists(days, base);
-    let values = check_base(days, base);
-    earlier(lists, values)
-}
-
-// 20: a base value on a missing day or above 1000 × the day's flow.
-fn check_base(days: &[u32], base: &[u64]) -> Verdict
-    ensures { λ r. ⌜ refusalOf r ≡ firstCause (baseCauses (now (days .entry)) (now (base .entry))) ⌝ }
-{
-    if series::any_invalid_base(days, base) {
-        return Verdict::Refused(Refusal::InvalidBase);
-    }
-    Verdict::Accepted
-}
-
-// The first of two verdicts that refuses.
-fn earlier(first: Verdict, second: Verdict) -> Verdict
-    ensures { λ r. ⌜ refusalOf r ≡ orElse (refusalOf first) (refusalOf second) ⌝ }
-{
-    if let Verdict::Refused(refusal) = first {
-        return Verdict::Refused(refusal);
-    }
-    second
-}
-
 // The quick total of a flow total and a base total.
 fn quick_total(flow: u64, base: u64) -> u64
-    requires { ⌜ (flow ≤ 365250000000) × (base ≤ 1000 * flow) ⌝ }
+    requires { ⌜ (flow ≤ 156873680449875) × (base ≤ 1000 * flow) ⌝ }
     ensures { λ r. ⌜ r ≡ 1000 * flow - base ⌝ }
 {
     1000 * flow - base
 }
 
-// The sums over two lists that have passed their checks.
-fn sums(days: &[u32], base: &[u64]) -> Tally
-    requires { ⌜ Sound (now days) (now base) × (anyInvalidBase (now days) (now base) ≡ false) ⌝ }
-    ensures { λ r. ⌜ SumsOf (listedDays (now (days .entry)) (now (base .entry))) r ⌝ }
+// The sums over two lists of one length, up to the first base value that is invalid.
+fn sums(days: &[u32], base: &[u64]) -> Found
+    requires { ⌜ (length (now days) ≡ length (now base)) × (length (now days) ≤ dayLimit) ⌝ }
+    ensures { λ r. ⌜ FoundIn (now (days .entry)) (now (base .entry)) r ⌝ }
 {
     let mut tally = Tally {
         days: 0,
@@ -111,17 +131,22 @@ fn sums(days: &[u32], base: &[u64]) -> Tally
     };
     let mut i = 0;
     while i < days.len() {
-        tally = with_day(tally, days[i], base[i]);
+        let day = days[i];
+        let value = base[i];
+        if series::is_invalid_base(day, value) {
+            return Found::InvalidBase;
+        }
+        tally = with_day(tally, day, value);
         i += 1;
     }
-    tally
+    Found::Sums(tally)
 }
 
 // The sums with one day more.
 fn with_day(tally: Tally, day: u32, base: u64) -> Tally
     requires { ⌜ Room tally ⌝ }
-    requires { ⌜ (isInvalidDay day ≡ false) × (isInvalidBase (dayOf day) (baseOf base) ≡ false) ⌝ }
-    ensures { λ r. ⌜ r ≡ addDay tally (dayOf day) (baseOf base) ⌝ }
+    requires { ⌜ isInvalidBase (dayOf day) (baseOf base) ≡ false ⌝ }
+    ensures { λ r. ⌜ (r ≡ addDay tally (dayOf day) (baseOf base)) × OneMore tally r ⌝ }
 {
     let m = counted(base);
     let y = counted_flow(day, base);

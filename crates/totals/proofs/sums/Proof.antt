@@ -1,12 +1,11 @@
--- `totals::sums` meets its contract: what has been added and what is left make up the whole.
+-- `totals::sums` meets its contract: what has been added and what is left make up the whole, and no base value so far is invalid.
 -- Assumes nothing.
 use Prim.Native.Nat.{_-_}
-use mathlib.Core.Path.{refl}
+use mathlib.Core.Path.{refl, sym, _∙_}
 use native.Mathlib.Omega.{arith}
 use lib.ListN.{length}
 use denote.Ref.{now}
-use Rattle.series.proofs.Views.{valid-at}
-use Rattle.totals.proofs.Summing.{Summed, sums-start, has-room, valid-base-at, sums-turn, sums-end}
+use Rattle.totals.proofs.Summing.{Summed, sums-start, has-room, found-invalid, sums-turn, sums-end}
 use Rattle.totals.proofs.sums.Statement.{statement}
 use Rattle.totals.proofs.sums.Tie as tie
 
@@ -19,24 +18,32 @@ abbrev μ-loop : tie.MeasureT-loop
 loop-holds : tie.Need-loop-holds Inv-loop μ-loop
 loop-holds c = let s = c .before .before in sums-start (now (s .args .days)) (now (s .args .base)) refl refl refl
 
-mul-with-day : tie.Need-mul-with-day Inv-loop μ-loop
-mul-with-day c = omega arith
+mul-day : tie.Need-mul-day Inv-loop μ-loop
+mul-day c = omega arith
 
-shared-slice-read-with-day : tie.Need-shared-slice-read-with-day Inv-loop μ-loop
-shared-slice-read-with-day c = omega arith
+shared-slice-read-day : tie.Need-shared-slice-read-day Inv-loop μ-loop
+shared-slice-read-day c = omega arith
 
-mul-with-day-2 : tie.Need-mul-with-day-2 Inv-loop μ-loop
-mul-with-day-2 c = omega (arith, c .before .before .before .before .before .pre .0 .same-length)
+mul-value : tie.Need-mul-value Inv-loop μ-loop
+mul-value c = omega (arith, c .before .before .before .before .before .pre .0)
 
-shared-slice-read-with-day-2 : tie.Need-shared-slice-read-with-day-2 Inv-loop μ-loop
-shared-slice-read-with-day-2 c = omega arith
+shared-slice-read-value : tie.Need-shared-slice-read-value Inv-loop μ-loop
+shared-slice-read-value c = omega arith
+
+is-invalid-base-requires : tie.Need-is-invalid-base-requires Inv-loop μ-loop
+is-invalid-base-requires c κs = tt
+
+returns : tie.Need-returns Inv-loop μ-loop
+returns c =
+    let l = c .before .before .before .before .before in
+    let s = l .before .before .before in
+    found-invalid (now (s .args .days)) (now (s .args .base)) (s .pre .0) (s .pre .1) (c .before .before .before .before .loop-test .taken) (c .before .is-invalid-base .ensures) (c .if1 .taken) (l .loop .inv)
 
 with-day-requires : tie.Need-with-day-requires Inv-loop μ-loop
 with-day-requires c κs =
-    let s = c .before .before .before .before .before .before in
-    let l = c .before .before .before in
-    let h = c .before .before .loop-test .taken in
-    (has-room (now (s .args .days)) (now (s .args .base)) (s .pre .0) (s .pre .1) (l .loop .inv), (valid-at (now (s .args .days)) (l .loop .i) (s .pre .0 .valid) h, valid-base-at (now (s .args .days)) (now (s .args .base)) (s .pre .0) (s .pre .1) (l .loop .i) h))
+    let l = c .before .before .before .before .before in
+    let s = l .before .before .before in
+    (has-room (now (s .args .days)) (now (s .args .base)) (s .pre .0) (s .pre .1) (l .loop .inv), sym (c .before .is-invalid-base .ensures) ∙ c .if1 .left)
 
 add-i : tie.Need-add-i Inv-loop μ-loop
 add-i c = omega arith
@@ -46,11 +53,12 @@ loop-less c = omega arith
 
 loop-again : tie.Need-loop-again Inv-loop μ-loop
 loop-again c =
-    let s = c .before .before .before .before .before .before .before in
-    sums-turn (now (s .args .days)) (now (s .args .base)) (s .pre .0) (s .pre .1) (c .before .before .before .loop-test .taken) (c .with-day .ensures) (c .before .before .before .before .loop .inv)
+    let l = c .before .before .before .before .before .before in
+    let s = l .before .before .before in
+    sums-turn (now (s .args .days)) (now (s .args .base)) (s .pre .0) (s .pre .1) (c .before .before .before .before .before .loop-test .taken) (sym (c .before .before .is-invalid-base .ensures) ∙ c .before .if1 .left) (c .with-day .ensures) (l .loop .inv)
 
-returns : tie.Need-returns Inv-loop μ-loop
-returns c =
+returns-2 : tie.Need-returns-2 Inv-loop μ-loop
+returns-2 c =
     let s = c .before .before .before .before in
     sums-end (now (s .args .days)) (now (s .args .base)) (s .pre .0) (s .pre .1) (c .loop-test .left) (c .before .loop .inv)
 
@@ -61,12 +69,14 @@ sums-spec =
     Inv-loop
     μ-loop
     loop-holds
-    mul-with-day
-    shared-slice-read-with-day
-    mul-with-day-2
-    shared-slice-read-with-day-2
+    mul-day
+    shared-slice-read-day
+    mul-value
+    shared-slice-read-value
+    is-invalid-base-requires
+    returns
     with-day-requires
     add-i
     loop-less
     loop-again
-    returns)
+    returns-2)

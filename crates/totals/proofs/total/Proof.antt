@@ -1,17 +1,19 @@
--- `totals::total` meets its contract: the first test that holds refuses; where none does, the sums give the totals.
+-- `totals::total` meets its contract: the first test that refuses decides; where none does, the sums give the totals.
 -- Assumes nothing.
-use Prim.Native.Nat.{ℕ, _*_, _≤_}
+use Prim.Native.Nat.{ℕ, _≤_, min}
 use mathlib.Core.List.{List}
-use mathlib.Core.Option.{none}
-use mathlib.Core.Path.{_≡_, sym, _∙_, ap}
+use mathlib.Core.Option.{orElse}
+use mathlib.Core.Path.{_≡_, sym, _∙_, ap, ap₂}
+use lib.ListN.{length, take}
+use lib.Seq.{length-take-le}
 use native.Mathlib.Omega.{arith}
 use borrow.Author.Needs.{needs}
 use denote.Ref.{now}
+use Rattle.series.specs.Units.{dayLimit}
+use Rattle.series.specs.Lists.{listCauses}
 use Rattle.series.specs.Causes.{refusalOf, firstCause}
-use Rattle.totals.specs.Totalling.{listedDays}
-use Rattle.totals.specs.Checking.{checkCauses}
-use Rattle.totals.proofs.Outcomes.{checks-refused, checked, flow-refused, all-accepted, sums-give, base-below, index-below}
-use Rattle.totals.proofs.Summing.{base-at-most}
+use Rattle.totals.specs.Finding.{refusalFound}
+use Rattle.totals.proofs.Outcomes.{front-fits, refused-first, answered, bounded}
 use Rattle.totals.proofs.total.Statement.{statement}
 use Rattle.totals.proofs.total.Tie as tie
 
@@ -21,71 +23,85 @@ days-of s = now (s .args .days)
 abbrev base-of : tie.Start → List ℕ
 base-of s = now (s .args .base)
 
--- no check refused
-no-cause : (c : tie.After-enum-told) → let s = c .before .before .before .before .before in none ≡ firstCause (checkCauses (days-of s) (base-of s))
-no-cause c = sym (ap refusalOf (c .enum-told .given .1)) ∙ c .before .before .check .ensures
+-- how many days are looked at
+front : (c : tie.After-least2) → let s = c .before .before .before .before .before in c .least2 .result ≡ min (min (length (days-of s)) (length (base-of s))) dayLimit
+front c = c .least2 .ensures ∙ ap (λ k. min k dayLimit) (c .before .least .ensures)
 
-below : (c : tie.After-sums) → c .sums .result .base ≤ 1000 * c .sums .result .flow
-below c =
-    let s = c .before .before .before .before .before .before in
-    base-below (listedDays (days-of s) (base-of s)) (c .sums .result) (c .sums .ensures) (base-at-most (days-of s) (base-of s) (checked (days-of s) (base-of s) (no-cause (c .before)) .1))
+fits : (c : tie.After-least2) → let s = c .before .before .before .before .before in (c .least2 .result ≤ length (days-of s)) × (c .least2 .result ≤ length (base-of s)) × (c .least2 .result ≤ dayLimit)
+fits c = let s = c .before .before .before .before .before in front-fits (c .least2 .result) (length (days-of s)) (length (base-of s)) dayLimit (front c)
 
-check-requires : tie.Need-check-requires
-check-requires c κs = search needs
+-- the verdict of both tests
+verdict-is : (c : tie.After-earlier) → refusalOf (c .earlier .result) ≡ orElse (firstCause (listCauses (days-of (c .before .before .before .before .before .before .before .before .before .before)) (base-of (c .before .before .before .before .before .before .before .before .before .before)))) (refusalFound (c .before .before .sums .result))
+verdict-is c = c .earlier .ensures ∙ ap₂ orElse (c .before .before .before .before .before .before .before .check-lists .ensures) (c .before .check-base .ensures)
+
+check-lists-requires : tie.Need-check-lists-requires
+check-lists-requires c κs = search needs
+
+least-requires : tie.Need-least-requires
+least-requires c κs = search needs
+
+least-requires-2 : tie.Need-least-requires-2
+least-requires-2 c κs = search needs
+
+slice-aggregate-sums : tie.Need-slice-aggregate-sums
+slice-aggregate-sums c = sym (length-take-le _ _ (fits (c .before) .0))
+
+slice-aggregate-sums-2 : tie.Need-slice-aggregate-sums-2
+slice-aggregate-sums-2 c = sym (length-take-le _ _ (fits (c .before .before) .1))
+
+sums-requires : tie.Need-sums-requires
+sums-requires c κs =
+    let f = fits (c .before .before) in
+    let s = c .before .before .before .before .before .before .before in
+    let n = c .before .before .least2 .result in
+    let d = length-take-le n (days-of s) (f .0) in
+    (d ∙ sym (length-take-le n (base-of s) (f .1)), omega (arith, d, f .2))
+
+check-base-requires : tie.Need-check-base-requires
+check-base-requires c κs = search needs
+
+earlier-requires : tie.Need-earlier-requires
+earlier-requires c κs = search needs
 
 enum-known-verdict : tie.Need-enum-known-verdict
 enum-known-verdict c = search needs
 
 returns : tie.Need-returns
 returns c =
-    let s = c .before .before .before .before .before .before in
-    checks-refused (days-of s) (base-of s) (sym (ap refusalOf (c .before .verdict .given .1)) ∙ c .before .before .before .check .ensures)
+    let l = c .before .before .before .before .before .before .before .before in
+    let s = l .before .before .before .before .before in
+    refused-first (days-of s) (base-of s) (l .least2 .result) (front l) (c .before .before .before .before .before .sums .result) (c .before .before .before .before .before .sums .ensures) (sym (ap refusalOf (c .before .verdict .given .1)) ∙ verdict-is (c .before .before .before))
 
 enum-told : tie.Need-enum-told
 enum-told c = search needs
 
-sums-requires : tie.Need-sums-requires
-sums-requires c κs =
-    let s = c .before .before .before .before .before in
-    checked (days-of s) (base-of s) (no-cause c)
+from-found-requires : tie.Need-from-found-requires
+from-found-requires c κs =
+    let l = c .before .before .before .before .before .before .before in
+    let s = l .before .before .before .before .before in
+    bounded (take (l .least2 .result) (days-of s)) (take (l .least2 .result) (base-of s)) (c .before .before .before .before .sums .result) (c .before .before .before .before .sums .ensures)
 
 returns-2 : tie.Need-returns-2
 returns-2 c =
-    let s = c .before .before .before .before .before .before .before .before in
-    flow-refused (days-of s) (base-of s) (no-cause (c .before .before .before)) (sym (c .before .before .sums .ensures .flow) ∙ c .if1 .taken)
-
-quick-total-requires : tie.Need-quick-total-requires
-quick-total-requires c κs = (c .before .before .sums .ensures .room .flow, below (c .before .before))
-
-mul-near : tie.Need-mul-near
-mul-near c = search needs
-
-near-requires : tie.Need-near-requires
-near-requires c κs = search needs
-
-cast-t11 : tie.Need-cast-t11
-cast-t11 c =
-    let t = c .before .before .before .before .before .sums .result in
-    omega (arith, index-below (t .base) (t .flow) (c .near .ensures) (below (c .before .before .before .before .before)) (c .before .before .before .if1 .left))
-
-returns-3 : tie.Need-returns-3
-returns-3 c =
-    let s = c .before .before .before .before .before .before .before .before .before .before .before in
-    let t = c .before .before .before .before .before .sums in
-    all-accepted (days-of s) (base-of s) (no-cause (c .before .before .before .before .before .before)) (λ e. c .before .before .before .if1 .left (t .ensures .flow ∙ e)) (sums-give (listedDays (days-of s) (base-of s)) (t .result) (t .ensures) (c .before .before .quick-total .ensures) (c .near .ensures))
+    let l = c .before .before .before .before .before .before .before .before in
+    let s = l .before .before .before .before .before in
+    c .from-found .ensures
+    ∙ answered (days-of s) (base-of s) (l .least2 .result) (front l) (c .before .before .before .before .before .sums .result) (c .before .before .before .before .before .sums .ensures) (sym (ap refusalOf (c .before .enum-told .given .1)) ∙ verdict-is (c .before .before .before))
 
 pub total-spec : {M : Type 1} → statement M
 total-spec =
     tie.close
     (tie.spec
-    check-requires
+    check-lists-requires
+    least-requires
+    least-requires-2
+    slice-aggregate-sums
+    slice-aggregate-sums-2
+    sums-requires
+    check-base-requires
+    earlier-requires
     enum-known-verdict
     returns
     enum-told
-    sums-requires
-    returns-2
-    quick-total-requires
-    mul-near
-    near-requires
-    cast-t11
-    returns-3)
+    from-found-requires
+    returns-2)
