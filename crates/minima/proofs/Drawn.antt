@@ -11,12 +11,12 @@ use native.Mathlib.Omega.{arith}
 use lib.ListN.{length, getD, set, length-set, length-map, List·getD-map}
 use lib.Seq.{getD-set-same, getD-set-other, ext-getD}
 use Rattle.numbers.specs.Arithmetic.{Arithmetic, rounded}
-use Rattle.series.specs.Units.{noValueMark, baseMark}
+use Rattle.series.specs.Units.{baseMark}
 use Rattle.minima.specs.declared.block.Turning.{Turning}
 use Rattle.minima.specs.TurningPoints.{counting, turningPoints, neighbours}
 use Rattle.minima.specs.Line.{valueOn, line}
 use Rattle.minima.specs.Pieces.{pointsFrom, Found, Filled, FilledTo, Blank}
-use Rattle.minima.proofs.Pieces.{valueOf, InHand, first-in-hand, next-in-hand, by-piece, none-left, none-at-all}
+use Rattle.minima.proofs.Pieces.{valueOf, InHand, first-in-hand, before-first, next-in-hand, by-piece, none-left, none-at-all}
 
 -- numbers counted off
 pub counting-length : (k n : ℕ) → length (counting k n) ≡ n
@@ -63,13 +63,19 @@ module _ (N g : ℕ) (flows : List ℕ) where
   mark t = baseMark (valueOf N g flows t)
 
   -- the days before t are drawn, and the turning points in hand give the others
-  pub record Drawn (base₀ base : List ℕ) (t i : ℕ) (x : Turning) : Type 0 where
-    pub same-length : length base ≡ length base₀
+  pub record Drawn (base : List ℕ) (t i : ℕ) (x : Turning) : Type 0 where
+    pub same-length : length flows ≡ length base
     pub so-far : (d : ℕ) → d < t → getD base d 0 ≡ mark d
     pub in-hand : InHand N g flows t i x
 
-  pub draw-start : (base : List ℕ) (x y : Turning) → Found N g flows 0 x → 0 < x .block → Found N g flows (x .block) y → Drawn base base 0 (x .day) y
-  draw-start base x y f h n = record { same-length = refl; so-far = λ d k. absurd (omega arith); in-hand = first-in-hand N g flows x y f h n }
+  pub draw-start : {base₀ base : List ℕ} (x y : Turning) → 0 < N → length flows ≡ length base₀ → Found N g flows 0 x → 0 < x .block → Found N g flows (x .block) y → Blank 0 (x .day) base₀ base → Drawn base (x .day) (x .day) y
+  unfolding baseMark
+  draw-start x y positive l f h n b =
+      record {
+        same-length = omega (arith, b .same-length);
+        so-far = λ d k. b .filled d (omega arith) k ∙ ap baseMark (before-first N g flows x f h positive d k);
+        in-hand = first-in-hand N g flows x f h y n;
+      }
 
   -- all days drawn
   all-days : {base : List ℕ} → length flows ≡ length base → ((d : ℕ) → d < length flows → getD base d 0 ≡ mark d) → base ≡ map baseMark (line rounded N g flows)
@@ -81,27 +87,28 @@ module _ (N g : ℕ) (flows : List ℕ) where
       marked : (d : ℕ) → d < length flows → getD (map baseMark (line rounded N g flows)) d 0 ≡ mark d
       marked d k = List·getD-map baseMark (line rounded N g flows) d (some 0) ∙ ap baseMark (line-at rounded N g flows d (some 0) k)
 
-  module _ {base₀ base new : List ℕ} {t i : ℕ} {x : Turning} (s : Drawn base₀ base t i x) where
-    pub draw-turn : (y : Turning) → 0 < N → 0 < x .block → FilledTo flows i (x .day) t base new → Found N g flows (x .block) y → Drawn base₀ new (x .day + 1) (x .day) y
+  module _ {base new : List ℕ} {t i : ℕ} {x : Turning} (s : Drawn base t i x) where
+    pub draw-turn : (y : Turning) → 0 < N → 0 < x .block → FilledTo flows i (x .day) t base new → Found N g flows (x .block) y → Drawn new (x .day + 1) (x .day) y
+    unfolding baseMark
     draw-turn y positive h f n =
         record {
-          same-length = f .same-length ∙ s .same-length;
+          same-length = omega (arith, f .same-length, s .same-length);
           so-far = λ d k. by-day d k (decLe t d);
           in-hand = next-in-hand N g flows (s .in-hand) h positive y n;
         }
       where
         by-day : (d : ℕ) → d < x .day + 1 → Dec (t ≤ d) → getD new d 0 ≡ mark d
-        by-day d k (yes l) = f .filled d l k ∙ by-piece N g flows (s .in-hand) h positive d l (omega arith)
+        by-day d k (yes l) = f .filled d l k ∙ ap baseMark (by-piece N g flows (s .in-hand) h d l (omega arith))
         by-day d k (no l) = f .kept d (lt-of-not-le l) ∙ s .so-far d (lt-of-not-le l)
 
-    pub draw-end : length flows ≡ length base₀ → x .block ≡ 0 → Blank t base new → new ≡ map baseMark (line rounded N g flows)
+    pub draw-end : x .block ≡ 0 → Blank t (length flows) base new → new ≡ map baseMark (line rounded N g flows)
     unfolding baseMark
-    draw-end l e f = all-days (omega (arith, f .same-length, s .same-length)) (λ d k. by-day d k (decLe t d))
+    draw-end e f = all-days (omega (arith, f .same-length, s .same-length)) (λ d k. by-day d k (decLe t d))
       where
         by-day : (d : ℕ) → d < length flows → Dec (t ≤ d) → getD new d 0 ≡ mark d
-        by-day d k (yes m) = f .filled d m (omega (arith, s .same-length)) ∙ ap baseMark (none-left N g flows (s .in-hand) e d m)
+        by-day d k (yes m) = f .filled d m k ∙ ap baseMark (none-left N g flows (s .in-hand) e d m)
         by-day d k (no m) = f .kept d (lt-of-not-le m) ∙ s .so-far d (lt-of-not-le m)
 
-  pub draw-nothing : {base new : List ℕ} → length flows ≡ length base → pointsFrom N g flows 0 ≡ [] → Blank 0 base new → new ≡ map baseMark (line rounded N g flows)
+  pub draw-nothing : {base new : List ℕ} → length flows ≡ length base → pointsFrom N g flows 0 ≡ [] → Blank 0 (length flows) base new → new ≡ map baseMark (line rounded N g flows)
   unfolding baseMark
-  draw-nothing l e f = all-days (omega (arith, f .same-length)) (λ d k. f .filled d (omega arith) (omega arith) ∙ ap baseMark (none-at-all N g flows e d))
+  draw-nothing l e f = all-days (omega (arith, f .same-length)) (λ d k. f .filled d (omega arith) k ∙ ap baseMark (none-at-all N g flows e d))

@@ -13,13 +13,13 @@ use lib.Dec.{leb, ltb}
 use borrow.Author.Tests.{le-leb, lt-leb, lt-ltb, le-ltb}
 use Rattle.numbers.specs.Near.{near}
 use Rattle.numbers.specs.Arithmetic.{Arithmetic, rounded}
-use Rattle.series.specs.Units.{dayLimit, noValueMark, baseMark}
+use Rattle.series.specs.Units.{dayLimit}
 use Rattle.minima.specs.declared.block.Turning.{Turning}
 use Rattle.minima.specs.Blocks.{flowOn, blockCount, minimumDay}
 use Rattle.minima.specs.TurningPoints.{turningPoints, neighbours}
 use Rattle.minima.specs.Line.{straight, between, valueOn}
 use Rattle.minima.specs.Drawing.{hasTwo}
-use Rattle.minima.specs.Pieces.{pointsFrom, Low, First, Found, Span, pieceMark}
+use Rattle.minima.specs.Pieces.{pointsFrom, Low, First, Found, Span}
 use Rattle.minima.proofs.Minima.{whole-block, block-minimum}
 use Rattle.minima.proofs.Points.{Rising, all-points, days-rise, points-rise}
 
@@ -40,16 +40,6 @@ module _ (S : Arithmetic) (flows : List ℕ) (i j : ℕ) (pairs : List (ℕ × �
       by-test : (b : Bool) → cond (b && leb t j) (some (between S flows i j t)) (valueOn S flows pairs t) ≡ valueOn S flows pairs t
       by-test true = simp (lt-leb t j h)
       by-test false = refl
-
--- the number of a day for the base list, by a piece
-module _ (flows : List ℕ) (i j t : ℕ) where
-  pub mark-before : t < i → noValueMark ≡ pieceMark flows i j t
-  unfolding pieceMark baseMark valueOn
-  mark-before h = sym (ap baseMark (value-before rounded flows i j [] t h))
-
-  pub mark-within : {r : ℕ} → i ≤ t → t ≤ j → r ≡ between rounded flows i j t → r ≡ pieceMark flows i j t
-  unfolding pieceMark baseMark
-  mark-within h k f = f ∙ sym (ap baseMark (value-within rounded flows i j [] t h k))
 
 -- the smaller of the flow and the straight line, as the code takes it
 module _ (flows : List ℕ) (i j t : ℕ) {r : ℕ} (e : r ≡ near (1000 * (flowOn flows i * (j - t) + flowOn flows j * (t - i))) (j - i)) where
@@ -89,13 +79,27 @@ module _ (N g : ℕ) (flows : List ℕ) where
     pub after : ℕ
     pub low : Low N flows i block after
     pub next : Found N g flows block x
+    pub from : i ≤ t
     pub near : t ≤ i + 1
     pub same : (d : ℕ) → t ≤ d → valueOn rounded flows (neighbours (i ∷ pointsFrom N g flows block)) d ≡ valueOf d
 
-  pub first-in-hand : (x y : Turning) → Found N g flows 0 x → 0 < x .block → Found N g flows (x .block) y → InHand 0 (x .day) y
-  first-in-hand x y f h n =
-      let p = f .there h in
-      record { block = x .block; after = x .after; low = p .low; next = n; near = omega arith; same = λ d _. ap (λ ps. valueOn rounded flows (neighbours ps) d) (sym (p .points) ∙ all-points N g flows) }
+  module _ (x : Turning) (f : Found N g flows 0 x) (h : 0 < x .block) where
+    all : x .day ∷ pointsFrom N g flows (x .block) ≡ turningPoints N g flows
+    all = sym (f .there h .points) ∙ all-points N g flows
+
+    pub first-in-hand : (y : Turning) → Found N g flows (x .block) y → InHand (x .day) (x .day) y
+    first-in-hand y n =
+        let p = f .there h in
+        record { block = x .block; after = x .after; low = p .low; next = n; from = omega arith; near = omega arith; same = λ d _. ap (λ ps. valueOn rounded flows (neighbours ps) d) all }
+
+    -- no day before it has a value
+    pub before-first : 0 < N → (d : ℕ) → d < x .day → none ≡ valueOf d
+    before-first positive d k =
+        let rise : Rising (x .day) (pointsFrom N g flows (x .block)) = subst (λ i. Rising i (pointsFrom N g flows (x .block))) (sym (f .there h .low .day)) (points-rise N g flows positive (x .block)) in
+        sym (before-points rounded flows (x .day) (pointsFrom N g flows (x .block)) d rise k) ∙ ap (λ ps. valueOn rounded flows (neighbours ps) d) all
+
+    pub first-inside : 0 < N → x .day < length flows
+    first-inside positive = low-inside positive (f .there h .low) .0
 
   module _ {t i : ℕ} {x : Turning} (v : InHand t i x) where
     module _ (h : 0 < x .block) where
@@ -108,6 +112,11 @@ module _ (N g : ℕ) (flows : List ℕ) where
       -- with the next one
       same-pair : (d : ℕ) → t ≤ d → valueOn rounded flows (neighbours (i ∷ x .day ∷ pointsFrom N g flows (x .block))) d ≡ valueOf d
       same-pair d k = ap (λ ps. valueOn rounded flows (neighbours (i ∷ ps)) d) (sym (right .points)) ∙ v .same d k
+
+      -- the piece gives the days up to it
+      pub by-piece : (d : ℕ) → t ≤ d → d ≤ x .day → some (between rounded flows i (x .day) d) ≡ valueOf d
+      unfolding neighbours
+      by-piece d k l = sym (value-within rounded flows i (x .day) (neighbours (x .day ∷ pointsFrom N g flows (x .block))) d (omega (arith, v .from)) l) ∙ same-pair d k
 
       module _ (positive : 0 < N) where
         order : i < x .day
@@ -128,20 +137,10 @@ module _ (N g : ℕ) (flows : List ℕ) where
               after = x .after;
               low = right .low;
               next = f;
+              from = omega arith;
               near = omega arith;
-              same = λ d k. sym (value-behind rounded flows i (x .day) (neighbours (x .day ∷ pointsFrom N g flows (x .block))) d (omega arith)) ∙ same-pair d (omega (arith, order, v .near));
+              same = λ d k. sym (value-behind rounded flows i (x .day) (neighbours (x .day ∷ pointsFrom N g flows (x .block))) d (omega arith)) ∙ same-pair d (omega (arith, onward));
             }
-
-        -- the piece gives the days up to it
-        pub by-piece : (d : ℕ) → t ≤ d → d ≤ x .day → pieceMark flows i (x .day) d ≡ baseMark (valueOf d)
-        unfolding pieceMark valueOn neighbours
-        by-piece d k l = ap baseMark (by-day (decLe i d))
-          where
-            by-day : Dec (i ≤ d) → valueOn rounded flows ((i, x .day) ∷ []) d ≡ valueOf d
-            by-day (yes m) = value-within rounded flows i (x .day) [] d m l ∙ sym (value-within rounded flows i (x .day) (neighbours (x .day ∷ pointsFrom N g flows (x .block))) d m l) ∙ same-pair d k
-            by-day (no m) =
-                let rise : Rising i (x .day ∷ pointsFrom N g flows (x .block)) = (order, subst (λ d. Rising d (pointsFrom N g flows (x .block))) (sym (right .low .day)) (points-rise N g flows positive (x .block))) in
-                value-before rounded flows i (x .day) [] d (lt-of-not-le m) ∙ sym (before-points rounded flows i (x .day ∷ pointsFrom N g flows (x .block)) d rise (lt-of-not-le m)) ∙ same-pair d k
 
     -- no next one
     pub none-left : x .block ≡ 0 → (d : ℕ) → t ≤ d → none ≡ valueOf d
@@ -160,13 +159,10 @@ module _ (N g : ℕ) (flows : List ℕ) where
 
   pub second-found : (x y : Turning) → Found N g flows 0 x → (x .block ≡ 0 → ⊥) → Found N g flows (x .block) y → ltb 0 (y .block) ≡ hasTwo N g flows
   unfolding hasTwo
-  second-found x y f h n = by-block (decLe 1 (y .block))
+  second-found x y f h n = by-block (decLe 1 (y .block)) (all x f (omega arith))
     where
-      all : x .day ∷ pointsFrom N g flows (x .block) ≡ turningPoints N g flows
-      all = sym (f .there (omega arith) .points) ∙ all-points N g flows
-
-      by-block : Dec (1 ≤ y .block) → ltb 0 (y .block) ≡ leb 2 (length (turningPoints N g flows))
-      by-block (yes k) = lt-ltb 0 (y .block) k ∙ sym (le-leb 2 (length (x .day ∷ y .day ∷ pointsFrom N g flows (y .block))) (omega arith)) ∙ ap (λ ps. leb 2 (length ps)) (ap (λ ps. x .day ∷ ps) (sym (n .there k .points)) ∙ all)
-      by-block (no k) =
+      by-block : Dec (1 ≤ y .block) → x .day ∷ pointsFrom N g flows (x .block) ≡ turningPoints N g flows → ltb 0 (y .block) ≡ leb 2 (length (turningPoints N g flows))
+      by-block (yes k) e = lt-ltb 0 (y .block) k ∙ sym (le-leb 2 (length (x .day ∷ y .day ∷ pointsFrom N g flows (y .block))) (omega arith)) ∙ ap (λ ps. leb 2 (length ps)) (ap (λ ps. x .day ∷ ps) (sym (n .there k .points)) ∙ e)
+      by-block (no k) e =
           let z : y .block ≡ 0 = omega (arith, lt-of-not-le k) in
-          le-ltb 0 (y .block) (omega arith) ∙ ap (λ ps. leb 2 (length ps)) (ap (λ ps. x .day ∷ ps) (sym (n .nowhere z)) ∙ all)
+          le-ltb 0 (y .block) (omega arith) ∙ ap (λ ps. leb 2 (length ps)) (ap (λ ps. x .day ∷ ps) (sym (n .nowhere z)) ∙ e)

@@ -4,11 +4,11 @@ use mathlib.Core.Path.{_≡_}
 use mathlib.Core.List.{List, [], _∷_, map}
 use lib.ListN.{length, getD}
 use Rattle.numbers.specs.Arithmetic.{rounded}
-use Rattle.series.specs.Units.{dayLimit, missingMark, noValueMark, baseMark}
+use Rattle.series.specs.Units.{dayLimit, missingMark, noValueMark}
 use Rattle.minima.specs.declared.block.Turning.{Turning}
 use Rattle.minima.specs.Blocks.{blockCount, minimumDay}
 use Rattle.minima.specs.TurningPoints.{middleTurns, counting, those}
-use Rattle.minima.specs.Line.{valueOn}
+use Rattle.minima.specs.Line.{between}
 
 -- the turning points of the triples of blocks that begin with block k or a later one
 unfoldable pub pointsFrom : (N g : ℕ) → List ℕ → (k : ℕ) → List ℕ
@@ -38,22 +38,18 @@ pub record Span (flows : List ℕ) (i j : ℕ) : Type 0 where
   pub inside : j < length flows
   pub short : length flows ≤ dayLimit
 
--- day t in the base list, by the piece from i to j alone
-unfoldable pub pieceMark : List ℕ → (i j t : ℕ) → ℕ
-pieceMark flows i j t = baseMark (valueOn rounded flows ((i, j) ∷ []) t)
-
 -- a list filled by a rule from a to before b; what stands before a is kept
 pub record Filled (rule : ℕ → ℕ) (a b : ℕ) (base₀ base : List ℕ) : Type 0 where
   pub same-length : length base ≡ length base₀
   pub filled : (d : ℕ) → a ≤ d → d < b → getD base d 0 ≡ rule d
   pub kept : (d : ℕ) → d < a → getD base d 0 ≡ getD base₀ d 0
 
--- by the piece from i to j up to its end, and with no value to the list's end
+-- filled by the line from i to j up to its end, or with no value
 abbrev pub FilledTo : List ℕ → (i j a : ℕ) → (base₀ base : List ℕ) → Type 0
-FilledTo flows i j a base₀ base = Filled (pieceMark flows i j) a (j + 1) base₀ base
+FilledTo flows i j a base₀ base = Filled (between rounded flows i j) a (j + 1) base₀ base
 
-abbrev pub Blank : (a : ℕ) → (base₀ base : List ℕ) → Type 0
-Blank a base₀ base = Filled (λ _. noValueMark) a (length base₀) base₀ base
+abbrev pub Blank : (a b : ℕ) → (base₀ base : List ℕ) → Type 0
+Blank a b base₀ base = Filled (λ _. noValueMark) a b base₀ base
 
 -- the days from `from` to before e are present, and e is missing or the list's end
 pub record SegmentEnd (days : List ℕ) (from e : ℕ) : Type 0 where

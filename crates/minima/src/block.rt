@@ -37,10 +37,13 @@ fn minimum_day(n: usize, days: &[u32], k: usize) -> usize
     let start = ORIGIN + k * n;
     let end = start + n;
     let mut low = start;
+    let mut lowest = days[start];
     let mut t = start + 1;
     while t < end {
-        if days[t] < days[low] {
+        let flow = days[t];
+        if flow < lowest {
             low = t;
+            lowest = flow;
         }
         t += 1;
     }

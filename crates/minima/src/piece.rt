@@ -4,7 +4,7 @@ ghost use Prim.Native.Nat.{_≤_};
 ghost use lib.ListN.{length};
 ghost use Rattle.numbers.specs.Arithmetic.{rounded};
 ghost use Rattle.minima.specs.Line.{between};
-ghost use Rattle.minima.specs.Pieces.{Span, pieceMark, FilledTo, Blank};
+ghost use Rattle.minima.specs.Pieces.{Span, FilledTo, Blank};
 
 // The straight line from turning point to turning point, and at most the flow.
 fn between(days: &[u32], left: usize, right: usize, t: usize) -> u64
@@ -18,35 +18,25 @@ fn between(days: &[u32], left: usize, right: usize, t: usize) -> u64
     if top < straight { top } else { straight }
 }
 
-// The number of the base list for day t, by a piece that does not end before it.
-fn day_base(days: &[u32], left: usize, right: usize, t: usize) -> u64
-    requires { ⌜ (t ≤ right) × Span (now days) left right ⌝ }
-    ensures { λ r. ⌜ r ≡ pieceMark (now (days .entry)) left right t ⌝ }
-{
-    if t < left {
-        return series::NO_VALUE;
-    }
-    between(days, left, right, t)
-}
-
-// The days from day `from` to the end of a piece.
+// The days from day `from` of a piece to its end.
 pub fn fill(days: &[u32], base: &mut [u64], left: usize, right: usize, from: usize)
-    requires { ⌜ Span (now days) left right × (length (now days) ≡ length (now base)) ⌝ }
+    requires { ⌜ (left ≤ from) × Span (now days) left right × (length (now days) ≡ length (now base)) ⌝ }
     ensures { λ _. ⌜ FilledTo (now (days .entry)) left right from (now (base .entry)) (now (base .exit)) ⌝ }
 {
     let mut t = from;
     while t <= right {
-        base[t] = day_base(days, left, right, t);
+        base[t] = between(days, left, right, t);
         t += 1;
     }
 }
 
-// The days from day `from` to the end of the segment, which no piece has.
-pub fn blank(base: &mut [u64], from: usize)
-    ensures { λ _. ⌜ Blank from (now (base .entry)) (now (base .exit)) ⌝ }
+// The days from day `from` to before day `end`, which no piece has.
+pub fn blank(base: &mut [u64], from: usize, end: usize)
+    requires { ⌜ end ≤ length (now base) ⌝ }
+    ensures { λ _. ⌜ Blank from end (now (base .entry)) (now (base .exit)) ⌝ }
 {
     let mut t = from;
-    while t < base.len() {
+    while t < end {
         base[t] = series::NO_VALUE;
         t += 1;
     }

@@ -31,11 +31,12 @@ fn draw_segment(n: usize, g: u32, days: &[u32], base: &mut [u64])
 {
     let first = block::first_turning(n, g, days);
     if first.block == 0 {
-        piece::blank(base, 0);
+        piece::blank(base, 0, days.len());
         return;
     }
-    let mut t = 0;
     let mut left = first.day;
+    piece::blank(base, 0, left);
+    let mut t = left;
     let mut right = block::next_turning(n, g, days, first);
     while 0 < right.block {
         piece::fill(days, base, left, right.day, t);
@@ -43,7 +44,7 @@ fn draw_segment(n: usize, g: u32, days: &[u32], base: &mut [u64])
         left = right.day;
         right = block::next_turning(n, g, days, right);
     }
-    piece::blank(base, t);
+    piece::blank(base, t, days.len());
 }
 
 // The first missing day from day `from` on, or the list's end.

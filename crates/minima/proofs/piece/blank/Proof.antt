@@ -3,7 +3,6 @@
 use Prim.Native.Nat.{_-_, _≤_}
 use mathlib.Core.Path.{refl}
 use native.Mathlib.Omega.{arith}
-use lib.ListN.{length, length-set}
 use denote.Ref.{now}
 use Rattle.series.specs.Units.{noValueMark}
 use Rattle.minima.specs.Pieces.{Filled}
@@ -12,10 +11,10 @@ use Rattle.minima.proofs.piece.blank.Statement.{statement}
 use Rattle.minima.proofs.piece.blank.Tie as tie
 
 abbrev Inv-loop : tie.InvT-loop
-Inv-loop base₀ from t₀ base t = (from ≤ t) × Filled (λ _. noValueMark) from t base₀ base
+Inv-loop base₀ from end t₀ base t = (from ≤ t) × Filled (λ _. noValueMark) from t base₀ base
 
 abbrev μ-loop : tie.MeasureT-loop
-μ-loop base₀ from t₀ base t = length base - t
+μ-loop base₀ from end t₀ base t = end - t
 
 loop-holds : tie.Need-loop-holds Inv-loop μ-loop
 loop-holds c = (omega arith, filled-none (λ _. noValueMark) (c .args .from) (now (c .args .base)))
@@ -30,7 +29,7 @@ add-t : tie.Need-add-t Inv-loop μ-loop
 add-t c = omega arith
 
 loop-less : tie.Need-loop-less Inv-loop μ-loop
-loop-less c = omega (arith, length-set (c .before .loop .base) (c .before .loop .t) noValueMark)
+loop-less c = omega arith
 
 loop-again : tie.Need-loop-again Inv-loop μ-loop
 loop-again c =
