@@ -2,24 +2,21 @@
 -- Assumes nothing.
 use Prim.Native.Nat.{ℕ, zero, suc, _+_, _≤_, _<_}
 use mathlib.Core.Path.{_≡_, refl, sym, _∙_, ap, subst}
-use mathlib.Core.Bool.{true, false}
-use mathlib.Core.List.{List, map}
+use mathlib.Core.List.{List, [], map}
 use mathlib.Core.Option.{Option, some}
 use mathlib.Core.Logic.{by-cases}
-use native.Mathlib.Nat.{zero-add}
-use native.Mathlib.Decide.{ℕ-discrete}
+use native.Mathlib.Nat.{zero-add, lt-of-not-le}
+use native.Mathlib.Decide.{decLe, ℕ-discrete}
 use native.Mathlib.Omega.{arith}
 use lib.ListN.{length, getD, set, length-set, length-map, List·getD-map}
 use lib.Seq.{getD-set-same, getD-set-other, ext-getD}
 use Rattle.numbers.specs.Arithmetic.{Arithmetic, rounded}
-use Rattle.series.specs.Units.{dayLimit, baseMark}
-use Rattle.minima.specs.declared.piece.Piece.{Piece}
-use Rattle.minima.specs.declared.piece.Piece.the-variants.{Between, Nothing}
+use Rattle.series.specs.Units.{baseMark}
+use Rattle.minima.specs.declared.block.Turning.{Turning}
 use Rattle.minima.specs.TurningPoints.{counting, turningPoints, neighbours}
 use Rattle.minima.specs.Line.{valueOn, line}
-use Rattle.minima.specs.Drawing.{hasTwo}
-use Rattle.minima.specs.Pieces.{FirstPiece, Gives, Reaches, Nearly, valueBy, UpToPiece}
-use Rattle.minima.proofs.Pieces.{two-points, not-two, gives-first, given}
+use Rattle.minima.specs.Pieces.{pointsFrom, Found, Filled, FilledTo, Blank}
+use Rattle.minima.proofs.Pieces.{valueOf, InHand, first-in-hand, before-first, next-in-hand, by-piece, none-left, none-at-all}
 
 -- numbers counted off
 pub counting-length : (k n : ℕ) → length (counting k n) ≡ n
@@ -43,54 +40,75 @@ module _ (S : Arithmetic) (N g : ℕ) (flows : List ℕ) where
   unfolding line
   line-at t d h = counting-at (valueOn S flows (neighbours (turningPoints N g flows))) 0 (length flows) t d h ∙ ap (valueOn S flows (neighbours (turningPoints N g flows))) (zero-add t)
 
--- a piece told by its constructor: two turning points, or not
-module _ (N g : ℕ) (flows : List ℕ) (piece : Piece) (first : FirstPiece N g flows (turningPoints N g flows) piece) where
-  pub with-two : {i j k : ℕ} → piece ≡ Between i j k → true ≡ hasTwo N g flows
-  with-two e = two-points N g flows (subst (FirstPiece N g flows (turningPoints N g flows)) e first)
+-- a list filled day by day
+module _ (rule : ℕ → ℕ) (a : ℕ) where
+  pub filled-none : (base : List ℕ) → Filled rule a a base base
+  filled-none base = record { same-length = refl; filled = λ d h k. absurd (omega arith); kept = λ d h. refl }
 
-  pub without-two : piece ≡ Nothing → false ≡ hasTwo N g flows
-  without-two e = not-two N g flows (subst (FirstPiece N g flows (turningPoints N g flows)) e first)
+  module _ {b : ℕ} {base₀ base : List ℕ} (f : Filled rule a b base₀ base) where
+    pub filled-one : {v : ℕ} → a ≤ b → b < length base → v ≡ rule b → Filled rule a (b + 1) base₀ (set base b v)
+    filled-one {v} o l e =
+        record {
+          same-length = length-set base b v ∙ f .same-length;
+          filled = λ d h k. by-cases (ℕ-discrete d b) (λ q. subst (λ x. getD (set base b v) x 0 ≡ rule x) (sym q) (getD-set-same base b v 0 l ∙ e)) (λ q. getD-set-other base b d v 0 q ∙ f .filled d h (omega arith));
+          kept = λ d h. getD-set-other base b d v 0 (λ q. omega arith) ∙ f .kept d h;
+        }
+
+    pub filled-to : {e : ℕ} → e ≤ b → Filled rule a e base₀ base
+    filled-to h = record { same-length = f .same-length; filled = λ d k l. f .filled d k (omega arith); kept = f .kept }
 
 module _ (N g : ℕ) (flows : List ℕ) where
   -- the number of a day in the base list
   abbrev mark : ℕ → ℕ
-  mark t = baseMark (valueOn rounded flows (neighbours (turningPoints N g flows)) t)
+  mark t = baseMark (valueOf N g flows t)
 
-  -- the days before t are drawn, and the piece in hand gives the others
-  pub record Drawn (base₀ base : List ℕ) (piece : Piece) (t : ℕ) : Type 0 where
-    pub same-length : length base ≡ length base₀
-    pub in-hand : Gives N g flows t piece × Nearly t piece
+  -- the days before t are drawn, and the turning points in hand give the others
+  pub record Drawn (base : List ℕ) (t i : ℕ) (x : Turning) : Type 0 where
+    pub same-length : length flows ≡ length base
     pub so-far : (d : ℕ) → d < t → getD base d 0 ≡ mark d
+    pub in-hand : InHand N g flows t i x
 
-  pub draw-start : (base : List ℕ) (piece : Piece) → FirstPiece N g flows (turningPoints N g flows) piece → Drawn base base piece 0
-  draw-start base piece f = record { same-length = refl; in-hand = gives-first N g flows piece f; so-far = λ d h. absurd (omega arith) }
-
-  tomorrow : (t : ℕ) (piece : Piece) → Gives N g flows t piece × Reaches t piece → Gives N g flows (t + 1) piece × Nearly (t + 1) piece
-  tomorrow t (Between i j k) v = (record { sound = v .0 .sound; same = λ d h. v .0 .same d (omega arith) }, omega (arith, v .1))
-  tomorrow t Nothing v = (record { sound = tt; same = λ d h. v .0 .same d (omega arith) }, tt)
-
-  pub draw-turn : {base₀ base : List ℕ} {before : Piece} {t b : ℕ} (piece : Piece) → 0 < N → length flows ≡ length base₀ → t < length flows → Drawn base₀ base before t → Gives N g flows t piece × Reaches t piece → b ≡ baseMark (valueBy flows piece t) → Drawn base₀ (set base t b) piece (t + 1)
-  draw-turn {base₀} {base} {before} {t} {b} piece positive e h s v m =
-      let l : t < length base = omega (arith, s .same-length) in
-      let n = m ∙ ap baseMark (given N g flows positive t piece (v .0) (v .1)) in
+  pub draw-start : {base₀ base : List ℕ} (x y : Turning) → 0 < N → length flows ≡ length base₀ → Found N g flows 0 x → 0 < x .block → Found N g flows (x .block) y → Blank 0 (x .day) base₀ base → Drawn base (x .day) (x .day) y
+  unfolding baseMark
+  draw-start x y positive l f h n b =
       record {
-        same-length = length-set base t b ∙ s .same-length;
-        in-hand = tomorrow t piece v;
-        so-far = λ d k. by-cases (ℕ-discrete d t) (λ q. subst (λ x. getD (set base t b) x 0 ≡ mark x) (sym q) (getD-set-same base t b 0 l ∙ n)) (λ q. getD-set-other base t d b 0 q ∙ s .so-far d (omega arith));
+        same-length = omega (arith, b .same-length);
+        so-far = λ d k. b .filled d (omega arith) k ∙ ap baseMark (before-first N g flows x f h positive d k);
+        in-hand = first-in-hand N g flows x f h y n;
       }
 
-  -- what a day's value is read from
-  pub draw-day : (t : ℕ) (piece : Piece) → length flows ≤ dayLimit → Gives N g flows t piece × Reaches t piece → UpToPiece flows piece t
-  draw-day t (Between i j k) l v = let s = v .0 .sound in record { to = v .1; in-order = s .in-order; inside = s .inside; short = l }
-  draw-day t Nothing l v = tt
-
-  pub draw-end : {base₀ base : List ℕ} {piece : Piece} {t : ℕ} → length flows ≡ length base₀ → length flows ≤ t → Drawn base₀ base piece t → base ≡ map baseMark (line rounded N g flows)
+  -- all days drawn
+  all-days : {base : List ℕ} → length flows ≡ length base → ((d : ℕ) → d < length flows → getD base d 0 ≡ mark d) → base ≡ map baseMark (line rounded N g flows)
   unfolding baseMark
-  draw-end {base₀} {base} {piece} {t} e h s =
-      let l : length base ≡ length flows = omega (arith, s .same-length) in
+  all-days {base} l h =
       let m : length (map baseMark (line rounded N g flows)) ≡ length flows = length-map (line rounded N g flows) baseMark ∙ line-length rounded N g flows in
-      ext-getD 0 base (map baseMark (line rounded N g flows)) (l ∙ sym m)
-      (λ d k. s .so-far d (omega arith) ∙ sym (marked d (omega arith)))
+      ext-getD 0 base (map baseMark (line rounded N g flows)) (sym (m ∙ l)) (λ d k. h d (omega arith) ∙ sym (marked d (omega arith)))
     where
       marked : (d : ℕ) → d < length flows → getD (map baseMark (line rounded N g flows)) d 0 ≡ mark d
       marked d k = List·getD-map baseMark (line rounded N g flows) d (some 0) ∙ ap baseMark (line-at rounded N g flows d (some 0) k)
+
+  module _ {base new : List ℕ} {t i : ℕ} {x : Turning} (s : Drawn base t i x) where
+    pub draw-turn : (y : Turning) → 0 < N → 0 < x .block → FilledTo flows i (x .day) t base new → Found N g flows (x .block) y → Drawn new (x .day + 1) (x .day) y
+    unfolding baseMark
+    draw-turn y positive h f n =
+        record {
+          same-length = omega (arith, f .same-length, s .same-length);
+          so-far = λ d k. by-day d k (decLe t d);
+          in-hand = next-in-hand N g flows (s .in-hand) h positive y n;
+        }
+      where
+        by-day : (d : ℕ) → d < x .day + 1 → Dec (t ≤ d) → getD new d 0 ≡ mark d
+        by-day d k (yes l) = f .filled d l k ∙ ap baseMark (by-piece N g flows (s .in-hand) h d l (omega arith))
+        by-day d k (no l) = f .kept d (lt-of-not-le l) ∙ s .so-far d (lt-of-not-le l)
+
+    pub draw-end : x .block ≡ 0 → Blank t (length flows) base new → new ≡ map baseMark (line rounded N g flows)
+    unfolding baseMark
+    draw-end e f = all-days (omega (arith, f .same-length, s .same-length)) (λ d k. by-day d k (decLe t d))
+      where
+        by-day : (d : ℕ) → d < length flows → Dec (t ≤ d) → getD new d 0 ≡ mark d
+        by-day d k (yes m) = f .filled d m k ∙ ap baseMark (none-left N g flows (s .in-hand) e d m)
+        by-day d k (no m) = f .kept d (lt-of-not-le m) ∙ s .so-far d (lt-of-not-le m)
+
+  pub draw-nothing : {base new : List ℕ} → length flows ≡ length base → pointsFrom N g flows 0 ≡ [] → Blank 0 (length flows) base new → new ≡ map baseMark (line rounded N g flows)
+  unfolding baseMark
+  draw-nothing l e f = all-days (omega (arith, f .same-length)) (λ d k. f .filled d (omega arith) k ∙ ap baseMark (none-at-all N g flows e d))

@@ -8,6 +8,5 @@ pub mod Neighbours
 mod Values
 mod Parted
 pub mod Distance
-pub mod Listed
 mod Calls
 mod Examples

@@ -1,28 +1,25 @@
--- Pieces of a segment's line: the first piece of a list of turning points, the piece in hand on a day, and its value.
+-- Pieces of a segment's line: the turning point in hand with the next one, and the days between them.
 -- Assumes nothing.
 use Prim.Native.Nat.{ℕ, _+_, _*_, _-_, _≤_, _<_, min}
 use mathlib.Core.Path.{_≡_, refl, sym, _∙_, ap, subst}
 use mathlib.Core.Bool.{Bool, true, false, cond, _&&_}
 use mathlib.Core.List.{List, [], _∷_}
-use mathlib.Core.Option.{none, some}
+use mathlib.Core.Option.{Option, none, some}
 use native.Mathlib.Nat.{lt-of-not-le, le-of-lt, mul-le-mul, min-eq-left, min-eq-right}
 use native.Mathlib.Decide.{decLe}
 use native.Mathlib.Omega.{arith}
-use lib.ListN.{length, getD}
-use lib.Dec.{leb}
-use borrow.Author.Tests.{le-leb, lt-leb}
+use lib.ListN.{length}
+use lib.Dec.{leb, ltb}
+use borrow.Author.Tests.{le-leb, lt-leb, lt-ltb, le-ltb}
 use Rattle.numbers.specs.Near.{near}
 use Rattle.numbers.specs.Arithmetic.{Arithmetic, rounded}
-use Rattle.series.specs.Units.{dayLimit, noValueMark, baseMark}
+use Rattle.series.specs.Units.{dayLimit}
 use Rattle.minima.specs.declared.block.Turning.{Turning}
-use Rattle.minima.specs.declared.block.Turning.the-variants.{At, Nothing as Nowhere}
-use Rattle.minima.specs.declared.piece.Piece.{Piece}
-use Rattle.minima.specs.declared.piece.Piece.the-variants.{Between, Nothing}
-use Rattle.minima.specs.Blocks.{flowOn, minimumDay}
+use Rattle.minima.specs.Blocks.{flowOn, blockCount, minimumDay}
 use Rattle.minima.specs.TurningPoints.{turningPoints, neighbours}
 use Rattle.minima.specs.Line.{straight, between, valueOn}
 use Rattle.minima.specs.Drawing.{hasTwo}
-use Rattle.minima.specs.Pieces.{pointsFrom, First, Found, FirstPiece, Gives, Reaches, Nearly, valueBy, UpTo}
+use Rattle.minima.specs.Pieces.{pointsFrom, Low, First, Found, Span}
 use Rattle.minima.proofs.Minima.{whole-block, block-minimum}
 use Rattle.minima.proofs.Points.{Rising, all-points, days-rise, points-rise}
 
@@ -44,20 +41,6 @@ module _ (S : Arithmetic) (flows : List ℕ) (i j : ℕ) (pairs : List (ℕ × �
       by-test true = simp (lt-leb t j h)
       by-test false = refl
 
--- the number of a day for the base list, by a piece
-module _ (flows : List ℕ) (piece : Piece) (t : ℕ) where
-  pub base-before : {i j k : ℕ} → piece ≡ Between i j k → t < i → noValueMark ≡ baseMark (valueBy flows piece t)
-  unfolding valueBy baseMark valueOn
-  base-before {i} {j} {k} e h = sym (ap (λ p. baseMark (valueBy flows p t)) e ∙ ap baseMark (value-before rounded flows i j [] t h))
-
-  pub base-within : {i j k r : ℕ} → piece ≡ Between i j k → (i ≤ t) × UpTo flows i j t → r ≡ between rounded flows i j t → r ≡ baseMark (valueBy flows piece t)
-  unfolding valueBy baseMark
-  base-within {i} {j} {k} e h f = f ∙ sym (ap (λ p. baseMark (valueBy flows p t)) e ∙ ap baseMark (value-within rounded flows i j [] t (h .0) (h .1 .to)))
-
-  pub base-without : piece ≡ Nothing → noValueMark ≡ baseMark (valueBy flows piece t)
-  unfolding valueBy baseMark
-  base-without e = sym (ap (λ p. baseMark (valueBy flows p t)) e)
-
 -- the smaller of the flow and the straight line, as the code takes it
 module _ (flows : List ℕ) (i j t : ℕ) {r : ℕ} (e : r ≡ near (1000 * (flowOn flows i * (j - t) + flowOn flows j * (t - i))) (j - i)) where
   pub capped : 1000 * flowOn flows t < r → 1000 * flowOn flows t ≡ between rounded flows i j t
@@ -78,85 +61,108 @@ before-points S flows i [] t r h = refl
 before-points S flows i (j ∷ ps) t r h = value-before S flows i j (neighbours (j ∷ ps)) t h ∙ before-points S flows j ps t (r .1) (omega (arith, r .0))
 
 module _ (N g : ℕ) (flows : List ℕ) where
-  -- what a search answers
-  pub found-at : (from : ℕ) (x : Turning) {d k : ℕ} → x ≡ At d k → Found N g flows from x → First N g flows from d k
-  found-at from x e f = subst (Found N g flows from) e f
+  -- a day's value by all turning points
+  abbrev pub valueOf : (t : ℕ) → Option ℕ
+  valueOf t = valueOn rounded flows (neighbours (turningPoints N g flows)) t
 
-  pub found-nothing : (from : ℕ) (x : Turning) → x ≡ Nowhere → Found N g flows from x → pointsFrom N g flows from ≡ []
-  found-nothing from x e f = subst (Found N g flows from) e f
+  -- minima lie in the segment
+  module _ (positive : 0 < N) where
+    inside : (k : ℕ) {d : ℕ} → k < blockCount N flows → d ≡ minimumDay N flows k → d < length flows
+    inside k h e = let w = whole-block N flows k positive h in omega (arith, block-minimum N flows k positive w .to)
 
-  -- a turning point and the next one found
-  pub piece-found : {i j k m : ℕ} → 0 < N → i ≡ minimumDay N flows k → First N g flows k j m → FirstPiece N g flows (i ∷ pointsFrom N g flows k) (Between i j m)
-  piece-found {i} {j} {k} {m} positive e f =
-      let w = whole-block N flows m positive (f .counted) in
-      let b = block-minimum N flows m positive w in
-      (ap (λ ps. i ∷ ps) (f .points), record { in-order = omega (arith, days-rise N g flows positive k m (f .later) (f .counted), f .day, e); day = f .day; inside = omega (arith, b .to, w, f .day) })
+    pub low-inside : {d k a : ℕ} → Low N flows d k a → (d < length flows) × (a < length flows)
+    low-inside {d} {k} {a} l = (inside k (omega (arith, l .counted)) (l .day), inside (k + 1) (l .counted) (l .after))
 
-  -- all turning points from the first one found on
-  pub pieces-begin : {i k : ℕ} (piece : Piece) → First N g flows 0 i k → FirstPiece N g flows (i ∷ pointsFrom N g flows k) piece → FirstPiece N g flows (turningPoints N g flows) piece
-  pieces-begin piece f p = subst (λ ps. FirstPiece N g flows ps piece) (sym (f .points) ∙ all-points N g flows) p
+  -- a turning point at i, from day t on enough with those behind it, and the next one
+  pub record InHand (t i : ℕ) (x : Turning) : Type 0 where
+    pub block : ℕ
+    pub after : ℕ
+    pub low : Low N flows i block after
+    pub next : Found N g flows block x
+    pub from : i ≤ t
+    pub near : t ≤ i + 1
+    pub same : (d : ℕ) → t ≤ d → valueOn rounded flows (neighbours (i ∷ pointsFrom N g flows block)) d ≡ valueOf d
 
-  -- too few turning points
-  pub one-point : (i k : ℕ) → pointsFrom N g flows k ≡ [] → length (i ∷ pointsFrom N g flows k) < 2
-  one-point i k e = rw e (omega arith)
+  module _ (x : Turning) (f : Found N g flows 0 x) (h : 0 < x .block) where
+    all : x .day ∷ pointsFrom N g flows (x .block) ≡ turningPoints N g flows
+    all = sym (f .there h .points) ∙ all-points N g flows
 
-  pub no-point : pointsFrom N g flows 0 ≡ [] → length (turningPoints N g flows) < 2
-  no-point e = rw (sym (all-points N g flows) ∙ e) (omega arith)
+    pub first-in-hand : (y : Turning) → Found N g flows (x .block) y → InHand (x .day) (x .day) y
+    first-in-hand y n =
+        let p = f .there h in
+        record { block = x .block; after = x .after; low = p .low; next = n; from = omega arith; near = omega arith; same = λ d _. ap (λ ps. valueOn rounded flows (neighbours ps) d) all }
+
+    -- no day before it has a value
+    pub before-first : 0 < N → (d : ℕ) → d < x .day → none ≡ valueOf d
+    before-first positive d k =
+        let rise : Rising (x .day) (pointsFrom N g flows (x .block)) = subst (λ i. Rising i (pointsFrom N g flows (x .block))) (sym (f .there h .low .day)) (points-rise N g flows positive (x .block)) in
+        sym (before-points rounded flows (x .day) (pointsFrom N g flows (x .block)) d rise k) ∙ ap (λ ps. valueOn rounded flows (neighbours ps) d) all
+
+    pub first-inside : 0 < N → x .day < length flows
+    first-inside positive = low-inside positive (f .there h .low) .0
+
+  module _ {t i : ℕ} {x : Turning} (v : InHand t i x) where
+    module _ (h : 0 < x .block) where
+      right : First N g flows (v .block) (x .day) (x .block) (x .after)
+      right = v .next .there h
+
+      pub next-low : Low N flows (x .day) (x .block) (x .after)
+      next-low = right .low
+
+      -- with the next one
+      same-pair : (d : ℕ) → t ≤ d → valueOn rounded flows (neighbours (i ∷ x .day ∷ pointsFrom N g flows (x .block))) d ≡ valueOf d
+      same-pair d k = ap (λ ps. valueOn rounded flows (neighbours (i ∷ ps)) d) (sym (right .points)) ∙ v .same d k
+
+      -- the piece gives the days up to it
+      pub by-piece : (d : ℕ) → t ≤ d → d ≤ x .day → some (between rounded flows i (x .day) d) ≡ valueOf d
+      unfolding neighbours
+      by-piece d k l = sym (value-within rounded flows i (x .day) (neighbours (x .day ∷ pointsFrom N g flows (x .block))) d (omega (arith, v .from)) l) ∙ same-pair d k
+
+      module _ (positive : 0 < N) where
+        order : i < x .day
+        order = omega (arith, days-rise N g flows positive (v .block) (x .block) (right .later) (omega (arith, right .low .counted)), right .low .day, v .low .day)
+
+        pub span : length flows ≤ dayLimit → Span flows i (x .day)
+        span s = record { in-order = order; inside = low-inside positive (right .low) .0; short = s }
+
+        pub onward : t < x .day + 1
+        onward = omega (arith, order, v .near)
+
+        -- the next one in hand, behind the piece
+        pub next-in-hand : (y : Turning) → Found N g flows (x .block) y → InHand (x .day + 1) (x .day) y
+        unfolding neighbours
+        next-in-hand y f =
+            record {
+              block = x .block;
+              after = x .after;
+              low = right .low;
+              next = f;
+              from = omega arith;
+              near = omega arith;
+              same = λ d k. sym (value-behind rounded flows i (x .day) (neighbours (x .day ∷ pointsFrom N g flows (x .block))) d (omega arith)) ∙ same-pair d (omega (arith, onward));
+            }
+
+    -- no next one
+    pub none-left : x .block ≡ 0 → (d : ℕ) → t ≤ d → none ≡ valueOf d
+    unfolding valueOn neighbours
+    none-left e d k = ap (λ ps. valueOn rounded flows (neighbours (i ∷ ps)) d) (sym (v .next .nowhere e)) ∙ v .same d k
+
+  -- no turning point at all
+  pub none-at-all : pointsFrom N g flows 0 ≡ [] → (d : ℕ) → none ≡ valueOf d
+  unfolding valueOn neighbours
+  none-at-all e d = ap (λ ps. valueOn rounded flows (neighbours ps) d) (sym e ∙ all-points N g flows)
 
   -- whether a segment has two turning points
-  pub two-points : {i j k : ℕ} → FirstPiece N g flows (turningPoints N g flows) (Between i j k) → true ≡ hasTwo N g flows
+  pub not-one : (x : Turning) → Found N g flows 0 x → x .block ≡ 0 → false ≡ hasTwo N g flows
   unfolding hasTwo
-  two-points {i} {j} {k} p = sym (ap (λ ps. leb 2 (length ps)) (p .0) ∙ le-leb 2 (length (i ∷ j ∷ pointsFrom N g flows k)) (omega arith))
+  not-one x f e = ap (λ ps. leb 2 (length ps)) (sym (f .nowhere e) ∙ all-points N g flows)
 
-  pub not-two : length (turningPoints N g flows) < 2 → false ≡ hasTwo N g flows
+  pub second-found : (x y : Turning) → Found N g flows 0 x → (x .block ≡ 0 → ⊥) → Found N g flows (x .block) y → ltb 0 (y .block) ≡ hasTwo N g flows
   unfolding hasTwo
-  not-two h = sym (lt-leb 2 (length (turningPoints N g flows)) h)
-
-  -- few points have no neighbours
-  no-neighbours : (ps : List ℕ) → length ps < 2 → neighbours ps ≡ []
-  unfolding neighbours
-  no-neighbours [] h = refl
-  no-neighbours (i ∷ []) h = refl
-  no-neighbours (i ∷ j ∷ ps) h = absurd (omega arith)
-
-  pub gives-first : (piece : Piece) → FirstPiece N g flows (turningPoints N g flows) piece → Gives N g flows 0 piece × Nearly 0 piece
-  unfolding neighbours
-  gives-first (Between i j k) p = (record { sound = p .1; same = λ d h. ap (λ ps. valueOn rounded flows (neighbours ps) d) (sym (p .0)) }, omega arith)
-  gives-first Nothing p = (record { sound = tt; same = λ d h. ap (λ ps. valueOn rounded flows ps d) (sym (no-neighbours (turningPoints N g flows) p)) }, tt)
-
-  -- a piece that ends before day t gives way to the next
-  pub gives-next : (t i j k : ℕ) (piece : Piece) → Gives N g flows t (Between i j k) → t ≤ j + 1 → j < t → FirstPiece N g flows (j ∷ pointsFrom N g flows k) piece → Gives N g flows t piece × Reaches t piece
-  unfolding neighbours
-  gives-next t i j k (Between i′ j′ k′) v n h p =
-      let e : j ≡ i′ = ap (λ ps. getD ps 0 0) (p .0) in
-      (record { sound = p .1; same = λ d l. ap (λ ps. valueOn rounded flows (neighbours ps) d) (sym (p .0)) ∙ sym (value-behind rounded flows i j (neighbours (j ∷ pointsFrom N g flows k)) d (omega arith)) ∙ v .same d l }, omega (arith, p .1 .in-order))
-  gives-next t i j k Nothing v n h p =
-      (record { sound = tt; same = λ d l. ap (λ ps. valueOn rounded flows ps d) (sym (no-neighbours (j ∷ pointsFrom N g flows k) p)) ∙ sym (value-behind rounded flows i j (neighbours (j ∷ pointsFrom N g flows k)) d (omega arith)) ∙ v .same d l }, tt)
-
-  -- the same, for a piece that a function is given
-  pub moved-on : (t : ℕ) (piece next : Piece) {i j k : ℕ} → piece ≡ Between i j k → Gives N g flows t piece × Nearly t piece → j < t → FirstPiece N g flows (j ∷ pointsFrom N g flows k) next → Gives N g flows t next × Reaches t next
-  moved-on t piece next {i} {j} {k} e v h p =
-      let w = subst (λ x. Gives N g flows t x × Nearly t x) e v in
-      gives-next t i j k next (w .0) (w .1) h p
-
-  pub kept : (t : ℕ) (piece : Piece) {i j k : ℕ} → piece ≡ Between i j k → Gives N g flows t piece × Nearly t piece → t ≤ j → Gives N g flows t (Between i j k) × Reaches t (Between i j k)
-  kept t piece e v h = (subst (Gives N g flows t) e (v .0), h)
-
-  pub none-left : (t : ℕ) (piece : Piece) → piece ≡ Nothing → Gives N g flows t piece × Nearly t piece → Gives N g flows t Nothing × Reaches t Nothing
-  none-left t piece e v = (subst (Gives N g flows t) e (v .0), tt)
-
-  pub right-day : (t : ℕ) (piece : Piece) {i j k : ℕ} → piece ≡ Between i j k → Gives N g flows t piece × Nearly t piece → j ≡ minimumDay N flows k
-  right-day t piece e v = subst (Gives N g flows t) e (v .0) .sound .day
-
-  -- the piece in hand gives the day's value
-  pub given : 0 < N → (t : ℕ) (piece : Piece) → Gives N g flows t piece → Reaches t piece → valueBy flows piece t ≡ valueOn rounded flows (neighbours (turningPoints N g flows)) t
-  unfolding valueBy valueOn neighbours
-  given positive t (Between i j k) v h = by-day (decLe i t)
+  second-found x y f h n = by-block (decLe 1 (y .block)) (all x f (omega arith))
     where
-      by-day : Dec (i ≤ t) → valueOn rounded flows ((i, j) ∷ []) t ≡ valueOn rounded flows (neighbours (turningPoints N g flows)) t
-      by-day (yes l) = value-within rounded flows i j [] t l h ∙ sym (value-within rounded flows i j (neighbours (j ∷ pointsFrom N g flows k)) t l h) ∙ v .same t (omega arith)
-      by-day (no l) =
-          let s = v .sound in
-          let rise : Rising i (j ∷ pointsFrom N g flows k) = (s .in-order, subst (λ d. Rising d (pointsFrom N g flows k)) (sym (s .day)) (points-rise N g flows positive k)) in
-          value-before rounded flows i j [] t (lt-of-not-le l) ∙ sym (before-points rounded flows i (j ∷ pointsFrom N g flows k) t rise (lt-of-not-le l)) ∙ v .same t (omega arith)
-  given positive t Nothing v h = v .same t (omega arith)
+      by-block : Dec (1 ≤ y .block) → x .day ∷ pointsFrom N g flows (x .block) ≡ turningPoints N g flows → ltb 0 (y .block) ≡ leb 2 (length (turningPoints N g flows))
+      by-block (yes k) e = lt-ltb 0 (y .block) k ∙ sym (le-leb 2 (length (x .day ∷ y .day ∷ pointsFrom N g flows (y .block))) (omega arith)) ∙ ap (λ ps. leb 2 (length ps)) (ap (λ ps. x .day ∷ ps) (sym (n .there k .points)) ∙ e)
+      by-block (no k) e =
+          let z : y .block ≡ 0 = omega (arith, lt-of-not-le k) in
+          le-ltb 0 (y .block) (omega arith) ∙ ap (λ ps. leb 2 (length ps)) (ap (λ ps. x .day ∷ ps) (sym (n .nowhere z)) ∙ e)

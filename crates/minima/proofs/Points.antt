@@ -12,7 +12,8 @@ use lib.Dec.{ltb}
 use borrow.Author.Tests.{lt-ltb, le-ltb}
 use Rattle.minima.specs.Blocks.{flowOn, origin, blockStart, blockCount, minimumFlow, minimumDay}
 use Rattle.minima.specs.TurningPoints.{turns, middleTurns, counting, those, turningPoints}
-use Rattle.minima.specs.Pieces.{pointsFrom, First}
+use Rattle.minima.specs.declared.block.Turning.{Turning}
+use Rattle.minima.specs.Pieces.{pointsFrom, Low, First, Found}
 use Rattle.minima.proofs.Minima.{whole-block, minimum-flow, block-minimum}
 
 -- a list of days, each later than the one before it, the first later than a
@@ -72,30 +73,42 @@ module _ (N g : ℕ) (flows : List ℕ) where
   unfolding pointsFrom turningPoints
   all-points = ap (pointsOf 0) (sub-zero triples)
 
-  -- a search that has passed the triples from block `from` to before block k
-  pub record Searched (from k : ℕ) : Type 0 where
+  -- a search that has passed the triples from block `from` to before block k, with the minima of blocks k and k + 1
+  pub record Searched (from k l m : ℕ) : Type 0 where
     pub onward : from ≤ k
     pub left : pointsFrom N g flows from ≡ pointsFrom N g flows k
+    pub low : Low N flows l k m
 
-  pub search-start : (from : ℕ) → Searched from from
-  search-start from = record { onward = omega arith; left = refl }
+  pub search-start : {from l m : ℕ} → Low N flows l from m → Searched from from l m
+  search-start low = record { onward = omega arith; left = refl; low = low }
 
-  module _ {from k end : ℕ} (s : Searched from k) (e : end ≡ triples) where
-    pub search-found : {d : ℕ} {t : Bool} → k < end → t ≡ middleTurns N g flows k → t ≡ true → d ≡ minimumDay N flows (k + 1) → First N g flows from d (k + 1)
-    search-found {d} h m f day =
-        record {
-          points = s .left ∙ turn-found k (omega arith) (sym m ∙ f) ∙ rw (day, add-one);
-          day = day;
-          later = omega (arith, s .onward);
-          counted = omega arith;
-        }
+  module _ {from k l m end : ℕ} (s : Searched from k l m) (e : end ≡ triples) where
+    module _ {r : ℕ} {t : Bool} (h : k < end) (q : r ≡ minimumDay N flows (k + 2)) (f : t ≡ middleTurns N g flows k) where
+      next-low : Low N flows m (k + 1) r
+      next-low = let two : k + 2 ≡ k + 1 + 1 = omega arith in record { day = s .low .after; after = q ∙ ap (minimumDay N flows) two; counted = omega arith }
 
-    pub search-on : {t : Bool} → k < end → t ≡ middleTurns N g flows k → t ≡ false → Searched from (k + 1)
-    search-on h m f = record { onward = omega (arith, s .onward); left = s .left ∙ turn-passed k (omega arith) (sym m ∙ f) ∙ rw (add-one) }
+      pub search-found : t ≡ true → First N g flows from m (k + 1) r
+      search-found y =
+          record { points = s .left ∙ turn-found k (omega arith) (sym f ∙ y) ∙ rw (s .low .after, add-one); low = next-low; later = omega (arith, s .onward) }
+
+      pub search-on : t ≡ false → Searched from (k + 1) m r
+      search-on y = record { onward = omega (arith, s .onward); left = s .left ∙ turn-passed k (omega arith) (sym f ∙ y) ∙ rw (add-one); low = next-low }
 
     pub search-end : end ≤ k → pointsFrom N g flows from ≡ []
     unfolding pointsFrom counting those
     search-end h = let e : triples - k ≡ 0 = omega arith in s .left ∙ ap (pointsOf k) e
+
+  -- what a search answers
+  pub found : {from : ℕ} (x : Turning) → First N g flows from (x .day) (x .block) (x .after) → Found N g flows from x
+  found x f = record { there = λ _. f; nowhere = λ e. absurd (omega (arith, f .later)) }
+
+  pub not-found : {from : ℕ} (x : Turning) → x .block ≡ 0 → pointsFrom N g flows from ≡ [] → Found N g flows from x
+  not-found x e f = record { there = λ h. absurd (omega arith); nowhere = λ _. f }
+
+  -- without three blocks there is none
+  pub no-triples : triples ≡ 0 → pointsFrom N g flows 0 ≡ []
+  unfolding pointsFrom counting those
+  no-triples e = ap (pointsOf 0) (sub-zero triples ∙ e)
 
   -- the days of minima rise from block to block
   module _ (positive : 0 < N) where

@@ -3,16 +3,18 @@ ghost use mathlib.Core.Path.{_≡_};
 ghost use Prim.Native.Nat.{_+_, _*_, _-_, _<_};
 ghost use lib.ListN.{length};
 ghost use Rattle.minima.specs.Blocks.{blockCount, minimumDay};
-ghost use Rattle.minima.specs.TurningPoints.{turns, middleTurns};
-ghost use Rattle.minima.specs.Pieces.{Found};
+ghost use Rattle.minima.specs.TurningPoints.{turns};
+ghost use Rattle.minima.specs.Pieces.{Low, Found};
 
 // The day of a segment from which its blocks run.
 const ORIGIN: usize = 0;
 
-// A turning point: its day and its block; or there is none.
-pub enum Turning {
-    At { day: usize, block: usize },
-    Nothing,
+// A block's minimum, where a turning point lies or from where one is looked for: its day, its block and the day of the
+// next block's minimum. As an answer, block 0 says that there is no turning point: the first block has none.
+pub struct Turning {
+    pub day: usize,
+    pub block: usize,
+    pub after: usize,
 }
 
 // How many times three neighbouring blocks of n days stand in a segment.
@@ -35,10 +37,13 @@ fn minimum_day(n: usize, days: &[u32], k: usize) -> usize
     let start = ORIGIN + k * n;
     let end = start + n;
     let mut low = start;
+    let mut lowest = days[start];
     let mut t = start + 1;
     while t < end {
-        if days[t] < days[low] {
+        let flow = days[t];
+        if flow < lowest {
             low = t;
+            lowest = flow;
         }
         t += 1;
     }
@@ -62,32 +67,57 @@ fn turns(g: u32, left: u32, middle: u32, right: u32) -> bool
     false
 }
 
-// Whether of the minima of blocks k, k + 1 and k + 2 the middle one is a turning point.
-fn middle_turns(n: usize, g: u32, days: &[u32], k: usize) -> bool
-    requires { ⌜ (0 < n) × (k + 2 < blockCount n (now days)) ⌝ }
-    ensures { λ r. ⌜ r ≡ middleTurns n g (now (days .entry)) k ⌝ }
-{
-    let left = minimum_day(n, days, k);
-    let middle = minimum_day(n, days, k + 1);
-    let right = minimum_day(n, days, k + 2);
-    turns(g, days[left], days[middle], days[right])
-}
-
-// The first turning point that is the middle of three blocks from block `from` on.
-pub fn next_turning(n: usize, g: u32, days: &[u32], from: usize) -> Turning
-    requires { ⌜ 0 < n ⌝ }
-    ensures { λ r. ⌜ Found n g (now (days .entry)) from r ⌝ }
+// The first turning point behind a block: the middle of three from that block on. Each minimum is found once.
+pub fn next_turning(n: usize, g: u32, days: &[u32], at: Turning) -> Turning
+    requires { ⌜ (0 < n) × Low n (now days) (at .day) (at .block) (at .after) ⌝ }
+    ensures { λ r. ⌜ Found n g (now (days .entry)) (at .block) r ⌝ }
 {
     let end = triples(n, days);
-    let mut k = from;
+    let mut k = at.block;
+    let mut left = at.day;
+    let mut middle = at.after;
     while k < end {
-        if middle_turns(n, g, days, k) {
-            return Turning::At {
-                day: minimum_day(n, days, k + 1),
+        let right = minimum_day(n, days, k + 2);
+        if turns(g, days[left], days[middle], days[right]) {
+            return Turning {
+                day: middle,
                 block: k + 1,
+                after: right,
             };
         }
         k += 1;
+        left = middle;
+        middle = right;
     }
-    Turning::Nothing
+    Turning {
+        day: 0,
+        block: 0,
+        after: 0,
+    }
+}
+
+// The first turning point of a segment.
+pub fn first_turning(n: usize, g: u32, days: &[u32]) -> Turning
+    requires { ⌜ 0 < n ⌝ }
+    ensures { λ r. ⌜ Found n g (now (days .entry)) 0 r ⌝ }
+{
+    if triples(n, days) == 0 {
+        return Turning {
+            day: 0,
+            block: 0,
+            after: 0,
+        };
+    }
+    let day = minimum_day(n, days, 0);
+    let after = minimum_day(n, days, 1);
+    next_turning(
+        n,
+        g,
+        days,
+        Turning {
+            day,
+            block: 0,
+            after,
+        },
+    )
 }

@@ -1,6 +1,6 @@
 // The line of each segment of a day list.
+use crate::block;
 use crate::piece;
-use crate::piece::Piece;
 ghost use mathlib.Core.Path.{_≡_};
 ghost use mathlib.Core.List.{map};
 ghost use Prim.Native.Nat.{_≤_, _<_};
@@ -16,14 +16,12 @@ fn has_two(n: usize, g: u32, days: &[u32]) -> bool
     requires { ⌜ 0 < n ⌝ }
     ensures { λ r. ⌜ r ≡ hasTwo n g (now (days .entry)) ⌝ }
 {
-    match piece::first_piece(n, g, days) {
-        Piece::Between {
-            left: _,
-            right: _,
-            block: _,
-        } => true,
-        Piece::Nothing => false,
+    let first = block::first_turning(n, g, days);
+    if first.block == 0 {
+        return false;
     }
+    let second = block::next_turning(n, g, days, first);
+    0 < second.block
 }
 
 // The line of one segment, each day of it written once.
@@ -31,13 +29,22 @@ fn draw_segment(n: usize, g: u32, days: &[u32], base: &mut [u64])
     requires { ⌜ (0 < n) × (length (now days) ≤ 36525) × (length (now days) ≡ length (now base)) ⌝ }
     ensures { λ _. ⌜ now (base .exit) ≡ map baseMark (line rounded n g (now (days .entry))) ⌝ }
 {
-    let mut piece = piece::first_piece(n, g, days);
-    let mut t = 0;
-    while t < days.len() {
-        piece = piece::piece_on(n, g, days, piece, t);
-        base[t] = piece::day_base(days, piece, t);
-        t += 1;
+    let first = block::first_turning(n, g, days);
+    if first.block == 0 {
+        piece::blank(base, 0, days.len());
+        return;
     }
+    let mut left = first.day;
+    piece::blank(base, 0, left);
+    let mut t = left;
+    let mut right = block::next_turning(n, g, days, first);
+    while 0 < right.block {
+        piece::fill(days, base, left, right.day, t);
+        t = right.day + 1;
+        left = right.day;
+        right = block::next_turning(n, g, days, right);
+    }
+    piece::blank(base, t, days.len());
 }
 
 // The first missing day from day `from` on, or the list's end.

@@ -12,13 +12,13 @@ use Rattle.minima.proofs.piece.between.Tie as tie
 -- each product of a flow and a number of days fits
 left-fits : (c : tie.After-shared-slice-known) → getD (now (c .before .args .days)) (c .before .args .left) 0 * (c .before .args .right - c .before .args .t) ≤ 4294967295 * 36525
 left-fits c =
-    let p = c .before .pre .1 in
+    let p = c .before .pre .2 in
     product-fits (omega (arith, c .shared-slice-known .given (c .before .args .left))) (omega (arith, p .inside, p .short))
 
 right-fits : (c : tie.After-shared-slice-known) → getD (now (c .before .args .days)) (c .before .args .right) 0 * (c .before .args .t - c .before .args .left) ≤ 4294967295 * 36525
 right-fits c =
-    let p = c .before .pre .1 in
-    product-fits (omega (arith, c .shared-slice-known .given (c .before .args .right))) (omega (arith, p .to, p .inside, p .short))
+    let p = c .before .pre .2 in
+    product-fits (omega (arith, c .shared-slice-known .given (c .before .args .right))) (omega (arith, p .inside, p .short))
 
 mul-from-left : tie.Need-mul-from-left
 mul-from-left c = search needs

@@ -1,31 +1,29 @@
 -- `minima::segment::has_two` meets its contract.
 -- Assumes nothing.
+use native.Mathlib.Omega.{arith}
 use borrow.Author.Needs.{needs}
 use denote.Ref.{now}
-use Rattle.minima.proofs.Drawn.{with-two, without-two}
+use Rattle.minima.proofs.Pieces.{not-one, second-found}
 use Rattle.minima.proofs.segment.has_two.Statement.{statement}
 use Rattle.minima.proofs.segment.has_two.Tie as tie
 
-first-piece-requires : tie.Need-first-piece-requires
-first-piece-requires c κs = search needs
-
-enum-told : tie.Need-enum-told
-enum-told c = search needs
-
-enum-told-2 : tie.Need-enum-told-2
-enum-told-2 c = search needs
+first-turning-requires : tie.Need-first-turning-requires
+first-turning-requires c κs = search needs
 
 returns : tie.Need-returns
 returns c =
-    let s = c .before .before .before .before in
-    let p = c .before .before .first-piece in
-    with-two (s .args .n) (s .args .g) (now (s .args .days)) (p .result) (p .ensures) (c .enum-told .given .1)
+    let a = c .before .before .before .before .args in
+    let f = c .before .before .first-turning in
+    not-one (a .n) (a .g) (now (a .days)) (f .result) (f .ensures) (c .if1 .taken)
+
+next-turning-requires : tie.Need-next-turning-requires
+next-turning-requires c κs = (c .before .before .before .before .pre, c .before .before .first-turning .ensures .there (omega (arith, c .if1 .left)) .low)
 
 returns-2 : tie.Need-returns-2
 returns-2 c =
-    let s = c .before .before .before .before in
-    let p = c .before .before .first-piece in
-    without-two (s .args .n) (s .args .g) (now (s .args .days)) (p .result) (p .ensures) (c .enum-told2 .given .1)
+    let f = c .before .before .before .before .first-turning in
+    let a = c .before .before .before .before .before .before .args in
+    second-found (a .n) (a .g) (now (a .days)) (f .result) (c .before .next-turning .result) (f .ensures) (c .before .before .if1 .left) (c .before .next-turning .ensures)
 
 pub has-two-spec : {M : Type 1} → statement M
-has-two-spec = tie.close (tie.spec first-piece-requires enum-told enum-told-2 returns returns-2)
+has-two-spec = tie.close (tie.spec first-turning-requires returns next-turning-requires returns-2)
