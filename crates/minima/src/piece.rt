@@ -13,7 +13,7 @@ fn between(days: &[u32], left: usize, right: usize, t: usize) -> u64
 {
     let from_left = (days[left] as u64) * ((right - t) as u64);
     let from_right = (days[right] as u64) * ((t - left) as u64);
-    let straight = numbers::near(1000 * (from_left + from_right), (right - left) as u64);
+    let straight = numbers::near_small(1000 * (from_left + from_right), (right - left) as u64);
     let top = 1000 * (days[t] as u64);
     if top < straight { top } else { straight }
 }

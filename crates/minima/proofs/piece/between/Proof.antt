@@ -50,17 +50,19 @@ sub-from-right c = search needs
 mul-from-right-2 : tie.Need-mul-from-right-2
 mul-from-right-2 c = omega (arith, right-fits (c .before .before))
 
-add-near : tie.Need-add-near
-add-near c = omega (arith, left-fits (c .before .before), right-fits (c .before .before))
+add-near-small : tie.Need-add-near-small
+add-near-small c = omega (arith, left-fits (c .before .before), right-fits (c .before .before))
 
-mul-near : tie.Need-mul-near
-mul-near c = omega (arith, left-fits (c .before .before), right-fits (c .before .before))
+mul-near-small : tie.Need-mul-near-small
+mul-near-small c = omega (arith, left-fits (c .before .before), right-fits (c .before .before))
 
-sub-near : tie.Need-sub-near
-sub-near c = search needs
+sub-near-small : tie.Need-sub-near-small
+sub-near-small c = search needs
 
-near-requires : tie.Need-near-requires
-near-requires c κs = search needs
+near-small-requires : tie.Need-near-small-requires
+near-small-requires c κs =
+    let p = c .before .before .before .pre .2 in
+    (omega (arith, p .in-order), omega (arith, p .inside, p .short, left-fits (c .before .before), right-fits (c .before .before)))
 
 mul-top : tie.Need-mul-top
 mul-top c = search needs
@@ -77,12 +79,12 @@ mul-top-2 c = omega (arith, c .shared-slice-known4 .given (c .before .before .be
 returns : tie.Need-returns
 returns c =
     let a = c .before .before .before .before .before .before .args in
-    capped (now (a .days)) (a .left) (a .right) (a .t) (c .before .before .near .ensures) (c .if1 .taken)
+    capped (now (a .days)) (a .left) (a .right) (a .t) (c .before .before .near-small .ensures) (c .if1 .taken)
 
 returns-2 : tie.Need-returns-2
 returns-2 c =
     let a = c .before .before .before .before .before .before .args in
-    not-capped (now (a .days)) (a .left) (a .right) (a .t) (c .before .before .near .ensures) (c .if1 .left)
+    not-capped (now (a .days)) (a .left) (a .right) (a .t) (c .before .before .near-small .ensures) (c .if1 .left)
 
 pub between-spec : {M : Type 1} → statement M
 between-spec =
@@ -98,10 +100,10 @@ between-spec =
     cast-from-right
     sub-from-right
     mul-from-right-2
-    add-near
-    mul-near
-    sub-near
-    near-requires
+    add-near-small
+    mul-near-small
+    sub-near-small
+    near-small-requires
     mul-top
     shared-slice-read-top
     cast-top
