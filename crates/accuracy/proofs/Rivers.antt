@@ -12,12 +12,12 @@ use lib.Dec.{eqb, lit<}
 use Rattle.numbers.specs.Near.{near}
 use Rattle.numbers.specs.Fraction.{Fraction, whole, sum, multiple, quotient, least}
 use Rattle.numbers.specs.Arithmetic.{rounded, exact, weighted}
-use Rattle.series.specs.Units.{isInvalidDay, dayOf}
+use Rattle.series.specs.Units.{isInvalidDay, dayOf, within}
 use Rattle.series.specs.Segments.{overSegments}
 use Rattle.series.specs.Causes.{firstCause, Outcome, accepted, refused}
 use Rattle.series.specs.Lists.{tooLong, lengthsDiffer, anyInvalidDay}
 use Rattle.filter.specs.declared.Setting.{Setting}
-use Rattle.filter.specs.Methods.{methodOf, weights, start, between, inRange, unknownMethod, outOfRange, invalidPasses}
+use Rattle.filter.specs.Methods.{methodOf, weights, start, inRange, unknownMethod, outOfRange, invalidPasses}
 use Rattle.filter.specs.Passes.{step, recursive, thousandths, filtered}
 use Rattle.filter.specs.Filtering.{filterCauses}
 use Rattle.filter.specs.Distance.{limitOf, filterLimit}
@@ -75,7 +75,7 @@ abbrev sixth : Fraction
 sixth = record { upper = pos 984375; lower = 1000; above-zero = lit< tt }
 
 filter-checks : List Bool
-unfolding whole sum multiple quotient least limitOf filtered overSegments methodOf weights start step recursive thousandths weighted near filterLimit filterCauses unknownMethod outOfRange inRange between invalidPasses tooLong lengthsDiffer anyInvalidDay isInvalidDay
+unfolding whole sum multiple quotient least limitOf filtered overSegments methodOf weights start step recursive thousandths weighted near filterLimit filterCauses unknownMethod outOfRange inRange within invalidPasses tooLong lengthsDiffer anyInvalidDay isInvalidDay
 filter-checks =
     -- method 1, p 9250, flows 100, 200, and flows 1000, 10
     same (filtered rounded (setting 1 9250 0) 1 (some 100 ∷ some 200 ∷ [])) (some 50000 ∷ some 57500 ∷ [])

@@ -10,9 +10,9 @@ use Rattle.numbers.specs.Arithmetic.{rounded, weighted}
 use Rattle.series.specs.Segments.{overSegments}
 use Rattle.series.specs.Causes.{firstCause}
 use Rattle.series.specs.Lists.{tooLong, lengthsDiffer, anyInvalidDay}
-use Rattle.series.specs.Units.{isInvalidDay}
+use Rattle.series.specs.Units.{isInvalidDay, within}
 use Rattle.filter.specs.declared.Setting.{Setting}
-use Rattle.filter.specs.Methods.{methodOf, weights, start, between, inRange, unknownMethod, outOfRange, invalidPasses}
+use Rattle.filter.specs.Methods.{methodOf, weights, start, inRange, unknownMethod, outOfRange, invalidPasses}
 use Rattle.filter.specs.Passes.{step, recursive, thousandths, filtered}
 use Rattle.filter.specs.Filtering.{filterCauses}
 
@@ -88,5 +88,5 @@ refusals :
     ∷ firstCause (filterCauses (setting 1 9250 0) 3 (10000001 ∷ []) (0 ∷ []))
     ∷ []
     ≡ some 11 ∷ some 12 ∷ none ∷ none ∷ some 12 ∷ some 13 ∷ some 13 ∷ some 14 ∷ some 10 ∷ []
-unfolding filterCauses unknownMethod outOfRange methodOf inRange between invalidPasses tooLong lengthsDiffer anyInvalidDay isInvalidDay
+unfolding filterCauses unknownMethod outOfRange methodOf inRange within invalidPasses tooLong lengthsDiffer anyInvalidDay isInvalidDay
 refusals = refl

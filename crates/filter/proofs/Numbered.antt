@@ -6,10 +6,11 @@ use mathlib.Core.Bool.{Bool, true, false, not, cond, _&&_}
 use native.Mathlib.Nat.{le-of-lt, min-eq-left, min-eq-right, min-le-left, mul-le-mul}
 use lib.Dec.{eqb}
 use borrow.Author.Tests.{ne-eqb}
+use Rattle.series.specs.Units.{within}
 use Rattle.numbers.specs.Arithmetic.{rounded, Weights, weighted}
 use Rattle.numbers.specs.Near.{near}
 use Rattle.filter.specs.declared.Setting.{Setting}
-use Rattle.filter.specs.Methods.{Method, lyne-hollick, chapman-1991, chapman-maxwell, boughton, eckhardt, tularam-ilahee, methodOf, weights, between, inRange, start, outOfRange}
+use Rattle.filter.specs.Methods.{Method, lyne-hollick, chapman-1991, chapman-maxwell, boughton, eckhardt, tularam-ilahee, methodOf, weights, inRange, start, outOfRange}
 use Rattle.filter.specs.Passes.{step, settingWeights}
 use Rattle.filter.specs.Ranges.{Usable, Moderate, Small}
 use Rattle.filter.proofs.Table.{Limits, row, usable-limits}
@@ -67,19 +68,19 @@ module _ (s : Setting) where
   abbrev ranged : Method → Bool
   ranged m = not (inRange m (s .p) (s .q))
 
-  pub range-2 : {r : Bool} → s .method ≡ 2 → r ≡ (between 3334 9999 (s .p) && eqb (s .q) 0) → not r ≡ outOfRange s
+  pub range-2 : {r : Bool} → s .method ≡ 2 → r ≡ (within 3334 9999 (s .p) && eqb (s .q) 0) → not r ≡ outOfRange s
   unfolding outOfRange inRange
   range-2 e h = ap not h ∙ sym (method-2 ranged (s .method) e)
 
-  pub range-4 : {r : Bool} → s .method ≡ 4 → r ≡ (between 1 9999 (s .p) && between 1 10000 (s .q)) → not r ≡ outOfRange s
+  pub range-4 : {r : Bool} → s .method ≡ 4 → r ≡ (within 1 9999 (s .p) && within 1 10000 (s .q)) → not r ≡ outOfRange s
   unfolding outOfRange inRange
   range-4 e h = ap not h ∙ sym (method-4 ranged (s .method) e)
 
-  pub range-5 : {r : Bool} → s .method ≡ 5 → r ≡ (between 1 9999 (s .p) && between 1 9999 (s .q)) → not r ≡ outOfRange s
+  pub range-5 : {r : Bool} → s .method ≡ 5 → r ≡ (within 1 9999 (s .p) && within 1 9999 (s .q)) → not r ≡ outOfRange s
   unfolding outOfRange inRange
   range-5 e h = ap not h ∙ sym (method-5 ranged (s .method) e)
 
-  pub range-other : {r : Bool} → (s .method ≡ 2 → ⊥) → (s .method ≡ 4 → ⊥) → (s .method ≡ 5 → ⊥) → r ≡ (between 1 9999 (s .p) && eqb (s .q) 0) → not r ≡ outOfRange s
+  pub range-other : {r : Bool} → (s .method ≡ 2 → ⊥) → (s .method ≡ 4 → ⊥) → (s .method ≡ 5 → ⊥) → r ≡ (within 1 9999 (s .p) && eqb (s .q) 0) → not r ≡ outOfRange s
   unfolding outOfRange inRange
   range-other h₂ h₄ h₅ h = ap not h ∙ sym (one-for-most ranged (s .method) _ refl refl refl h₂ h₄ h₅)
 

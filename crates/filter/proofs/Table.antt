@@ -7,18 +7,19 @@ use native.Mathlib.Nat.{mul-le-mul-right}
 use native.Mathlib.Omega.{arith}
 use borrow.Author.Tests.{leb-true, eqb-true, not-false}
 use lib.Dec.{eqb}
+use Rattle.series.specs.Units.{within}
 use Rattle.numbers.specs.Arithmetic.{Weights, rounded}
 use Rattle.numbers.proofs.Rounding.{near-at-most}
 use Rattle.filter.specs.declared.Setting.{Setting}
-use Rattle.filter.specs.Methods.{Method, lyne-hollick, chapman-1991, chapman-maxwell, boughton, eckhardt, tularam-ilahee, methodOf, weights, between, inRange, start, outOfRange}
+use Rattle.filter.specs.Methods.{Method, lyne-hollick, chapman-1991, chapman-maxwell, boughton, eckhardt, tularam-ilahee, methodOf, weights, inRange, start, outOfRange}
 use Rattle.filter.specs.Ranges.{Moderate}
 
 both : (a b : Bool) → (a && b) ≡ true → (a ≡ true) × (b ≡ true)
 both true b e = (refl, e)
 both false b e = absurd (false≢true e)
 
-pub lies : (low high n : ℕ) → between low high n ≡ true → (low ≤ n) × (n ≤ high)
-unfolding between
+pub lies : (low high n : ℕ) → within low high n ≡ true → (low ≤ n) × (n ≤ high)
+unfolding within
 lies low high n e = let h = both _ _ e in (leb-true low n (h .0), leb-true n high (h .1))
 
 -- the ranges of a row as inequalities
@@ -30,10 +31,10 @@ Limits boughton p q = (1 ≤ p) × (p ≤ 9999) × (1 ≤ q) × (q ≤ 10000)
 Limits eckhardt p q = (1 ≤ p) × (p ≤ 9999) × (1 ≤ q) × (q ≤ 9999)
 Limits tularam-ilahee p q = (1 ≤ p) × (p ≤ 9999) × (q ≡ 0)
 
-one-parameter : (low p q : ℕ) → (between low 9999 p && eqb q 0) ≡ true → (low ≤ p) × (p ≤ 9999) × (q ≡ 0)
+one-parameter : (low p q : ℕ) → (within low 9999 p && eqb q 0) ≡ true → (low ≤ p) × (p ≤ 9999) × (q ≡ 0)
 one-parameter low p q e = let h = both _ _ e in let l = lies low 9999 p (h .0) in (l .0, l .1, eqb-true q 0 (h .1))
 
-two-parameters : (high p q : ℕ) → (between 1 9999 p && between 1 high q) ≡ true → (1 ≤ p) × (p ≤ 9999) × (1 ≤ q) × (q ≤ high)
+two-parameters : (high p q : ℕ) → (within 1 9999 p && within 1 high q) ≡ true → (1 ≤ p) × (p ≤ 9999) × (1 ≤ q) × (q ≤ high)
 two-parameters high p q e =
     let h = both _ _ e in
     let l = lies 1 9999 p (h .0) in

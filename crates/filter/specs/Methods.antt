@@ -1,8 +1,9 @@
 -- The six filters (document 01, "Filters"): a row of the table for each method.
 use Prim.Native.Nat.{ℕ, _+_, _*_, _-_}
 use mathlib.Core.Bool.{Bool, cond, not, _&&_, _||_}
-use lib.Dec.{leb, ltb, eqb}
+use lib.Dec.{ltb, eqb}
 use Rattle.numbers.specs.Arithmetic.{Arithmetic, Weights}
+use Rattle.series.specs.Units.{within}
 use Rattle.filter.specs.declared.Setting.{Setting}
 
 pub data Method : Type 0 where
@@ -24,18 +25,14 @@ weights boughton p q = record { A = p; B = q; C = 0; d = 10000 + q }
 weights eckhardt p q = record { A = p * (10000 - q); B = (10000 - p) * q; C = 0; d = 100000000 - p * q }
 weights tularam-ilahee p q = record { A = p; B = 10000 - p; C = 0; d = 10000 }
 
--- n lies from low to high
-unfoldable pub between : (low high n : ℕ) → Bool
-between low high n = leb low n && leb n high
-
 -- the range of p and q; q is 0 where the row has none
 unfoldable pub inRange : Method → (p q : ℕ) → Bool
-inRange lyne-hollick p q = between 1 9999 p && eqb q 0
-inRange chapman-1991 p q = between 3334 9999 p && eqb q 0
-inRange chapman-maxwell p q = between 1 9999 p && eqb q 0
-inRange boughton p q = between 1 9999 p && between 1 10000 q
-inRange eckhardt p q = between 1 9999 p && between 1 9999 q
-inRange tularam-ilahee p q = between 1 9999 p && eqb q 0
+inRange lyne-hollick p q = within 1 9999 p && eqb q 0
+inRange chapman-1991 p q = within 3334 9999 p && eqb q 0
+inRange chapman-maxwell p q = within 1 9999 p && eqb q 0
+inRange boughton p q = within 1 9999 p && within 1 10000 q
+inRange eckhardt p q = within 1 9999 p && within 1 9999 q
+inRange tularam-ilahee p q = within 1 9999 p && eqb q 0
 
 -- the first f of pass 1, on a day of flow y: 500 × y, in method 5 near(9 × q × y / 100)
 unfoldable pub start : (S : Arithmetic) → Method → (q y : ℕ) → S .Number
@@ -48,8 +45,8 @@ start S tularam-ilahee q y = S .number (500 * y)
 
 -- 11: method not 1 to 6
 unfoldable pub unknownMethod : Setting → Bool
-unfolding between
-unknownMethod s = not (between 1 6 (s .method))
+unfolding within
+unknownMethod s = not (within 1 6 (s .method))
 
 -- 12: p or q outside its range
 unfoldable pub outOfRange : Setting → Bool
@@ -57,5 +54,5 @@ outOfRange s = not (inRange (methodOf (s .method)) (s .p) (s .q))
 
 -- 13: passes not 1 to 3, or over 1 outside method 1
 unfoldable pub invalidPasses : Setting → ℕ → Bool
-unfolding between
-invalidPasses s n = not (between 1 3 n) || (ltb 1 n && not (eqb (s .method) 1))
+unfolding within
+invalidPasses s n = not (within 1 3 n) || (ltb 1 n && not (eqb (s .method) 1))

@@ -4,8 +4,9 @@ ghost use mathlib.Core.Path.{_≡_};
 ghost use mathlib.Core.Bool.{_&&_};
 ghost use lib.Dec.{eqb};
 ghost use Prim.Native.Nat.{_≤_};
+ghost use Rattle.series.specs.Units.{within};
 ghost use Rattle.numbers.specs.Arithmetic.{rounded};
-ghost use Rattle.filter.specs.Methods.{between, unknownMethod, outOfRange, invalidPasses};
+ghost use Rattle.filter.specs.Methods.{unknownMethod, outOfRange, invalidPasses};
 ghost use Rattle.filter.specs.Passes.{step, settingWeights, firstDay};
 ghost use Rattle.filter.specs.Ranges.{weightsOf, Usable, Moderate, Small};
 
@@ -17,27 +18,18 @@ pub struct Coefficients {
     pub d: u64,
 }
 
-fn within(low: u32, high: u32, n: u32) -> bool
-    ensures { λ r. ⌜ r ≡ between low high n ⌝ }
-{
-    if low <= n {
-        return n <= high;
-    }
-    false
-}
-
 // 11: the method is not 1 to 6.
 pub fn unknown_method(setting: Setting) -> bool
     ensures { λ r. ⌜ r ≡ unknownMethod setting ⌝ }
 {
-    !within(1, 6, setting.method)
+    !series::within(1, 6, setting.method)
 }
 
 // The range of a method with one parameter: p from `low` on, and q 0.
 fn one_parameter(low: u32, p: u32, q: u32) -> bool
-    ensures { λ r. ⌜ r ≡ (between low 9999 p && eqb q 0) ⌝ }
+    ensures { λ r. ⌜ r ≡ (within low 9999 p && eqb q 0) ⌝ }
 {
-    if within(low, 9999, p) {
+    if series::within(low, 9999, p) {
         return q == 0;
     }
     false
@@ -45,10 +37,10 @@ fn one_parameter(low: u32, p: u32, q: u32) -> bool
 
 // The range of a method with two parameters: q up to `high`.
 fn two_parameters(high: u32, p: u32, q: u32) -> bool
-    ensures { λ r. ⌜ r ≡ (between 1 9999 p && between 1 high q) ⌝ }
+    ensures { λ r. ⌜ r ≡ (within 1 9999 p && within 1 high q) ⌝ }
 {
-    if within(1, 9999, p) {
-        return within(1, high, q);
+    if series::within(1, 9999, p) {
+        return series::within(1, high, q);
     }
     false
 }
@@ -70,7 +62,7 @@ pub fn out_of_range(setting: Setting) -> bool
 pub fn invalid_passes(setting: Setting, passes: u32) -> bool
     ensures { λ r. ⌜ r ≡ invalidPasses setting passes ⌝ }
 {
-    if !within(1, 3, passes) {
+    if !series::within(1, 3, passes) {
         return true;
     }
     if 1 < passes {

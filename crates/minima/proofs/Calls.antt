@@ -7,12 +7,12 @@ use mathlib.Core.List.{List, [], _∷_, _++_, map}
 use mathlib.Core.Option.{Option, none, some}
 use lib.ListN.{length}
 use borrow.Author.Tests.{leb-true, ltb-false, not-false}
-use Rattle.series.specs.Units.{dayLimit, dayOf}
+use Rattle.series.specs.Units.{dayLimit, dayOf, within}
 use Rattle.series.specs.Causes.{Cause, cause, firstCause}
 use Rattle.series.specs.Lists.{tooLong, listCauses}
 use Rattle.series.proofs.Refusing.{lists-sound}
 use Rattle.minima.specs.declared.LineSetting.{LineSetting}
-use Rattle.minima.specs.Drawing.{blockDays, within, outOfRange, noLine, lineCauses, lineList, leftBy, lineLeaves}
+use Rattle.minima.specs.Drawing.{blockDays, outOfRange, noLine, lineCauses, lineList, leftBy, lineLeaves}
 
 pub both : (a b : Bool) → (a && b) ≡ true → (a ≡ true) × (b ≡ true)
 both true b e = (refl, e)

@@ -11,7 +11,7 @@ use lib.ListN.{getD, replicate}
 use Rattle.numbers.specs.Near.{near}
 use Rattle.numbers.specs.Fraction.{Fraction, whole, quotient, least}
 use Rattle.numbers.specs.Arithmetic.{rounded, exact}
-use Rattle.series.specs.Units.{isInvalidDay, dayOf}
+use Rattle.series.specs.Units.{isInvalidDay, dayOf, within}
 use Rattle.series.specs.Segments.{parts, overSegments}
 use Rattle.series.specs.Causes.{firstCause}
 use Rattle.series.specs.Lists.{tooLong, lengthsDiffer, anyInvalidDay}
@@ -19,7 +19,7 @@ use Rattle.minima.specs.declared.LineSetting.{LineSetting}
 use Rattle.minima.specs.Blocks.{origin, blockStart, blockCount, block, lowest, earliest, minimumFlow, minimumDay}
 use Rattle.minima.specs.TurningPoints.{turns, middleTurns, counting, those, turningPoints, neighbours}
 use Rattle.minima.specs.Line.{straight, between, valueOn, line, lineOver}
-use Rattle.minima.specs.Drawing.{within, outOfRange, hasTwo, anyOf, noLine, lineCauses}
+use Rattle.minima.specs.Drawing.{outOfRange, hasTwo, anyOf, noLine, lineCauses}
 
 -- document 01's river: N 1, g 9000, base 8000, 8333, 8667, 9000 at positions 1 to 4
 river : List ℕ

@@ -6,7 +6,7 @@ use mathlib.Core.Option.{Option, none, some}
 use lib.ListN.{length}
 use lib.Dec.{leb}
 use Rattle.numbers.specs.Arithmetic.{rounded}
-use Rattle.series.specs.Units.{dayOf, baseMark}
+use Rattle.series.specs.Units.{dayOf, baseMark, within}
 use Rattle.series.specs.Segments.{parts}
 use Rattle.series.specs.Causes.{Cause, cause, firstCause}
 use Rattle.series.specs.Lists.{tooLong, lengthsDiffer, anyInvalidDay}
@@ -17,10 +17,6 @@ use Rattle.minima.specs.Line.{lineOver}
 -- N
 abbrev pub blockDays : LineSetting → ℕ
 blockDays s = s .«block_days»
-
--- n lies from low to high
-unfoldable pub within : (low high n : ℕ) → Bool
-within low high n = leb low n && leb n high
 
 -- 16: N or g outside its range
 unfoldable pub outOfRange : LineSetting → Bool

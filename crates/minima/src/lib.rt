@@ -7,8 +7,9 @@ mod segment;
 use series::Refusal;
 use series::Verdict;
 ghost use mathlib.Core.Path.{_≡_};
+ghost use Rattle.series.specs.Units.{within};
 ghost use Rattle.series.specs.Causes.{refusalOf, firstCause};
-ghost use Rattle.minima.specs.Drawing.{within, outOfRange, lineCauses, lineLeaves};
+ghost use Rattle.minima.specs.Drawing.{outOfRange, lineCauses, lineLeaves};
 
 // The setting of a line: the block length N in days, and the factor g of the turning points in ten-thousandths.
 pub struct LineSetting {
@@ -16,21 +17,12 @@ pub struct LineSetting {
     pub factor: u32,
 }
 
-fn within(low: u32, high: u32, n: u32) -> bool
-    ensures { λ r. ⌜ r ≡ within low high n ⌝ }
-{
-    if low <= n {
-        return n <= high;
-    }
-    false
-}
-
 // 16: N or g lies outside its range.
 fn out_of_range(setting: LineSetting) -> bool
     ensures { λ r. ⌜ r ≡ outOfRange setting ⌝ }
 {
-    if within(1, 30, setting.block_days) {
-        return !within(1, 9999, setting.factor);
+    if series::within(1, 30, setting.block_days) {
+        return !series::within(1, 9999, setting.factor);
     }
     true
 }

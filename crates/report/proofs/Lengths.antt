@@ -12,14 +12,14 @@ use lib.Dec.{ltb}
 use borrow.Author.Tests.{eqb-false}
 use Rattle.numbers.specs.Fraction.{Fraction}
 use Rattle.numbers.proofs.Rounding.{near-at-most}
-use Rattle.series.specs.Units.{dayOf, baseMark}
+use Rattle.series.specs.Units.{dayOf, baseMark, within}
 use Rattle.series.specs.Causes.{Cause, Outcome, accepted, refused, outcome}
 use Rattle.series.specs.Agreement.{Each, done, then}
 use Rattle.series.proofs.Views.{Valid, valid-days}
 use Rattle.series.proofs.Refusing.{AllFalse, no-cause, next-false}
 use Rattle.record.specs.Reading.{Stated, reading}
 use Rattle.record.proofs.Accepting.{accepted-record}
-use Rattle.filter.specs.Methods.{methodOf, between, inRange, unknownMethod, outOfRange, invalidPasses}
+use Rattle.filter.specs.Methods.{methodOf, inRange, unknownMethod, outOfRange, invalidPasses}
 use Rattle.filter.specs.Filtering.{filteredList}
 use Rattle.filter.specs.Distance.{FilterDay, missing, present, filterLimit}
 use Rattle.filter.specs.Ranges.{Usable}
@@ -85,11 +85,11 @@ index-length (accepted t) h = let i = h t refl in simp length-append (omega (ari
 
 -- the setting is accepted
 usable : Usable setting
-unfolding unknownMethod outOfRange methodOf inRange between
+unfolding unknownMethod outOfRange methodOf inRange within
 usable = record { known = refl; in-range = refl }
 
 one-pass : invalidPasses setting 1 ≡ false
-unfolding invalidPasses between
+unfolding invalidPasses within
 one-pass = refl
 
 pub base-within : (days : List ℕ) (t : ℕ) {y : ℕ} → getD (map dayOf days) t none ≡ some y → getD (baseFlow days) t 0 ≤ 1000 * y

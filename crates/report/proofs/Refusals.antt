@@ -9,19 +9,19 @@ use native.Mathlib.Omega.{arith}
 use lib.ListN.{length}
 use borrow.Author.Needs.{needs}
 use borrow.Author.Tests.{le-ltb, eq-eqb}
-use Rattle.series.specs.Units.{dayLimit}
+use Rattle.series.specs.Units.{dayLimit, within}
 use Rattle.series.specs.Causes.{Cause, firstCause, Outcome, accepted, refused}
 use Rattle.series.specs.Lists.{tooLong, lengthsDiffer}
 use Rattle.record.specs.Entries.{Entry, entryOf, isEnd, bodyLength, kindOf, statedDays, entryCauses}
 use Rattle.record.specs.Reading.{Stated, mapOutcome, unless, entryThen, daysFrom, reading}
 use Rattle.record.proofs.Accepting.{accepted-record}
-use Rattle.filter.specs.Methods.{methodOf, between, inRange, unknownMethod, outOfRange, invalidPasses}
+use Rattle.filter.specs.Methods.{methodOf, inRange, unknownMethod, outOfRange, invalidPasses}
 use Rattle.filter.specs.Filtering.{filterCauses}
 use Rattle.report.specs.Text.{setting}
 
 -- the filter refuses no days that a record states, where it is lent a base list of their number
 pub filter-accepts : (room : ℕ) (bytes : List ℕ) {s : Stated} → reading room bytes ≡ accepted s → (base : List ℕ) → length base ≡ length (s .days) → firstCause (filterCauses setting 1 (s .days) base) ≡ none
-unfolding filterCauses methodOf between inRange unknownMethod outOfRange invalidPasses tooLong lengthsDiffer
+unfolding filterCauses methodOf within inRange unknownMethod outOfRange invalidPasses tooLong lengthsDiffer
 filter-accepts room bytes {s} e base l =
     let a = accepted-record room bytes e in
     simp (le-ltb dayLimit (length (s .days)) (a .within-limit), eq-eqb (length (s .days)) (length base) (sym l), a .valid)

@@ -1,6 +1,6 @@
 -- The day list and the base list (document 01, "Units"): limits, marks, and the readable view of each list.
 use Prim.Native.Nat.{ℕ}
-use mathlib.Core.Bool.{Bool, cond, not, _||_}
+use mathlib.Core.Bool.{Bool, cond, not, _||_, _&&_}
 use mathlib.Core.Option.{Option, none, some}
 use lib.Dec.{leb, eqb}
 
@@ -44,3 +44,7 @@ baseOf b = cond (eqb b noValueMark) none (some b)
 unfoldable pub baseMark : Option ℕ → ℕ
 baseMark none = noValueMark
 baseMark (some b) = b
+
+-- a number of a setting lies in its range, from low to high
+unfoldable pub within : (low high n : ℕ) → Bool
+within low high n = leb low n && leb n high

@@ -2,7 +2,7 @@
 // the tests that several calls share. A day list holds flows in litres a second, a base list thousandths of that.
 ghost use mathlib.Core.Path.{_≡_};
 ghost use mathlib.Core.Bool.{_||_};
-ghost use Rattle.series.specs.Units.{isInvalidDay, dayOf, baseOf};
+ghost use Rattle.series.specs.Units.{isInvalidDay, dayOf, baseOf, within};
 ghost use Rattle.series.specs.Causes.{refusalNumber, refusalOf, firstCause};
 ghost use Rattle.series.specs.Lists.{tooLong, lengthsDiffer, anyInvalidDay, isInvalidBase, listCauses};
 
@@ -99,6 +99,16 @@ impl Refusal {
 pub enum Verdict {
     Accepted,
     Refused(Refusal),
+}
+
+// A number of a setting lies in its range, from low to high.
+pub fn within(low: u32, high: u32, n: u32) -> bool
+    ensures { λ r. ⌜ r ≡ within low high n ⌝ }
+{
+    if low <= n {
+        return n <= high;
+    }
+    false
 }
 
 // 9: the day list is over 36,525 long.

@@ -1,7 +1,6 @@
 -- `filter::method::smoothed` meets its contract.
 -- Assumes nothing.
 use native.Mathlib.Omega.{arith}
-use borrow.Author.Needs.{needs}
 use Rattle.filter.proofs.Numbered.{step-capped, step-mean, product-small}
 use Rattle.filter.specs.Ranges.{weightsOf}
 use Rattle.filter.proofs.method.smoothed.Statement.{statement}

@@ -1,9 +1,9 @@
--- `minima::within` meets its contract.
+-- `series::within` meets its contract.
 -- Assumes nothing.
 use borrow.Author.Tests.{le-leb, lt-leb}
-use Rattle.minima.specs.Drawing.{within}
-use Rattle.minima.proofs.within.Statement.{statement}
-use Rattle.minima.proofs.within.Tie as tie
+use Rattle.series.specs.Units.{within}
+use Rattle.series.proofs.within.Statement.{statement}
+use Rattle.series.proofs.within.Tie as tie
 
 returns : tie.Need-returns
 unfolding within
