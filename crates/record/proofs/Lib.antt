@@ -8,3 +8,4 @@ mod Entered
 mod Soundness
 mod Walk
 mod WritingWalk
+mod Stepping
