@@ -2,6 +2,7 @@ pub mod Sentences
 pub mod Accepting
 mod Examples
 mod Bytes
+mod Naming
 mod Tests
 mod Stores
 mod Entered

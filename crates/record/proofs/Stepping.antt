@@ -2,7 +2,7 @@
 -- Assumes nothing.
 use Prim.Native.Nat.{ℕ, _+_, _-_, _≤_, _<_, min}
 use mathlib.Core.Path.{_≡_, refl, sym, _∙_, ap}
-use mathlib.Core.Bool.{Bool, true, false, cond, true≢false}
+use mathlib.Core.Bool.{Bool, true, false, true≢false}
 use mathlib.Core.List.{List}
 use mathlib.Core.Option.{none}
 use native.Mathlib.Omega.{arith}
@@ -12,51 +12,12 @@ use lib.Dec.{ltb, eqb}
 use Rattle.series.specs.Units.{dayLimit}
 use Rattle.series.specs.Causes.{firstCause}
 use Rattle.record.specs.declared.entry.Kind.{Kind}
-use Rattle.record.specs.declared.entry.Kind.the-variants.{Head, Flow, MissingDay, MissingDays, End, Unknown}
 use Rattle.record.specs.Entries.{number, kindOf, isUnknown, isHead, isEnd, misplaced, bodyLength, outOfRange, daysOf, Entry, value, statedDays, entryCauses}
 use Rattle.record.specs.Steps.{entryAt, statesDays, PassedDays, Stepped}
+use Rattle.record.proofs.Naming.{days-known, days-or-end, other-bytes}
 use Rattle.record.proofs.Tests.{told₂, value-is, count-is, complete}
 use Rattle.record.proofs.Entered.{Passed, passed, head-first}
 use Rattle.record.proofs.Walk.{Walked, begin, turn, body-inside}
-
--- a kind that states days is known, no head and no end; and a known kind that is no head states days or is the end
-days-known : (k : Kind) → statesDays k ≡ true → (isUnknown k ≡ false) × (isHead k ≡ false) × (isEnd k ≡ false)
-days-known Head h = absurd (true≢false (sym h))
-days-known Flow h = (refl, refl, refl)
-days-known MissingDay h = (refl, refl, refl)
-days-known MissingDays h = (refl, refl, refl)
-days-known End h = absurd (true≢false (sym h))
-days-known Unknown h = absurd (true≢false (sym h))
-
-days-or-end : (k : Kind) → isUnknown k ≡ false → isHead k ≡ false → (statesDays k ≡ true → ⊥) → isEnd k ≡ true
-days-or-end Head u h s = absurd (true≢false h)
-days-or-end Flow u h s = absurd (s refl)
-days-or-end MissingDay u h s = absurd (s refl)
-days-or-end MissingDays u h s = absurd (s refl)
-days-or-end End u h s = refl
-days-or-end Unknown u h s = absurd (true≢false u)
-
--- bytes that name a kind of days
-pub flow-byte : {b : ℕ} → b ≡ 2 → Flow ≡ kindOf b
-unfolding kindOf
-flow-byte h = rw h
-
-pub missing-day-byte : {b : ℕ} → b ≡ 3 → MissingDay ≡ kindOf b
-unfolding kindOf
-missing-day-byte h = rw h
-
-pub missing-days-byte : {b : ℕ} → b ≡ 4 → MissingDays ≡ kindOf b
-unfolding kindOf
-missing-days-byte h = rw h
-
-other-bytes : (b : ℕ) → (b ≡ 2 → ⊥) → (b ≡ 3 → ⊥) → (b ≡ 4 → ⊥) → statesDays (kindOf b) ≡ false
-unfolding kindOf
-other-bytes b f m g = simp (ne-eqb b 2 f, ne-eqb b 3 m, ne-eqb b 4 g) (neither (eqb b 1) (eqb b 9))
-  where
-    neither : (t u : Bool) → statesDays (cond t Head (cond u End Unknown)) ≡ false
-    neither true u = refl
-    neither false true = refl
-    neither false false = refl
 
 module _ (s : List ℕ) (at n space : ℕ) where
   abbrev e : Entry

@@ -3,7 +3,8 @@
 use mathlib.Core.Path.{refl}
 use borrow.Author.Needs.{needs}
 use denote.Ref.{now}
-use Rattle.record.proofs.Stepping.{flow-byte, missing-day-byte, missing-days-byte, no-days}
+use Rattle.record.proofs.Naming.{flow-byte, missing-day-byte, missing-days-byte}
+use Rattle.record.proofs.Stepping.{no-days}
 use Rattle.record.proofs.checks.next_step.Statement.{statement}
 use Rattle.record.proofs.checks.next_step.Tie as tie
 
