@@ -16,14 +16,14 @@ use Rattle.record.specs.Entries.{number, kindOf, isUnknown, isHead, isEn
 use Rattle.record.specs.Steps.{entryAt, statesDays, PassedDays, Stepped}
 use Rattle.record.proofs.Naming.{days-known, days-or-end, other-bytes}
 use Rattle.record.proofs.Tests.{told₂, value-is, count-is, complete}
-use Rattle.record.proofs.Entered.{Passed, passed, head-first}
+use Rattle.record.proofs.Entered.{head-first, passed}
 use Rattle.record.proofs.Walk.{Walked, begin, turn, body-inside}
 
 module _ (s : List ℕ) (at n space : ℕ) where
   abbrev e : Entry
   e = entryAt s at
 
-  pub no-step : (PassedDays s at n space → ⊥) → Stepped s at n space 0 0
+  no-step : (PassedDays s at n space → ⊥) → Stepped s at n space 0 0
   no-step h =
       record { over = λ f. absurd (f refl); bytes-taken = λ f. absurd (f refl); days-stated = λ f. absurd (f refl); ends = λ _. h }
 

@@ -22,7 +22,7 @@ pub record Written (s list : List ℕ) (at n : ℕ) (days : List ℕ) : Type 0 w
   pub walk : Walked s (length list) at n
   pub so-far : days ≡ walk .front ++ drop n list
 
-pub begin-writing : (s list : List ℕ) → Written s list 0 0 list
+begin-writing : (s list : List ℕ) → Written s list 0 0 list
 begin-writing s list = record { walk = begin s (length list); so-far = rw (begin-front s (length list)) }
 
 -- days stored behind those that stand in the list

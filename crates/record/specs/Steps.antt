@@ -7,7 +7,7 @@ use lib.ListN.{length, getD, take, drop}
 use Rattle.series.specs.Causes.{Outcome, accepted, refused}
 use Rattle.record.specs.declared.entry.Kind.{Kind}
 use Rattle.record.specs.declared.entry.Kind.the-variants.{Head, Flow, MissingDay, MissingDays, End, Unknown}
-use Rattle.record.specs.Entries.{Entry, entryOf, isEnd, bodyLength, outOfRange, value, statedDays}
+use Rattle.record.specs.Entries.{Entry, entryOf, bodyLength, outOfRange, value, statedDays}
 
 -- the entry at a position of the bytes
 abbrev pub entryAt : List ℕ → ℕ → Entry

@@ -42,7 +42,7 @@ impl Kind {
         }
     }
 
-    // The same of a byte that names a kind other than the head: three tests.
+    // The kind that a byte names where no head and no unknown kind can stand: three tests, and no jump table.
     pub(crate) fn behind_head(byte: u8) -> Kind
         requires { ⌜ (isUnknown (kindOf byte) ≡ false) × (isHead (kindOf byte) ≡ false) ⌝ }
         ensures { λ r. ⌜ r ≡ kindOf byte ⌝ }

@@ -1,7 +1,7 @@
 -- `record::checks::check_days` meets its contract: what all bytes come to is the days counted so far, and then what the bytes
 -- from `at` on come to.
 -- Assumes nothing.
-use Prim.Native.Nat.{ℕ, _+_, _-_, _≤_, _<_}
+use Prim.Native.Nat.{ℕ, _-_, _<_}
 use mathlib.Core.Path.{_≡_, sym, _∙_, ap}
 use mathlib.Core.Bool.{true}
 use mathlib.Core.List.{List}
