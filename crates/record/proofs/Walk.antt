@@ -105,7 +105,7 @@ module _ (s : List ℕ) (room at n : ℕ) (w : Walked s room at n) (inside : at 
     pub body-inside : at + 1 + bodyLength (e .kind) ≤ length s
     body-inside = omega (arith, all-passed .complete, length-take (bodyLength (e .kind)) (drop (suc at) s), length-drop (suc at) s)
 
-    pub within-limit : n + length (statedDays e) ≤ dayLimit
+    within-limit : n + length (statedDays e) ≤ dayLimit
     within-limit = all-passed .total
 
     pub within-room : n + length (statedDays e) ≤ room

@@ -3,24 +3,26 @@
 use Prim.Native.Nat.{ℕ, _+_, _<_}
 use mathlib.Core.Path.{_≡_, sym, _∙_, ap}
 use mathlib.Core.Bool.{true, false}
-use mathlib.Core.List.{List, _++_}
+use mathlib.Core.List.{List, [], _++_}
 use native.Mathlib.Omega.{arith}
+use borrow.Author.Tests.{ne-eqb}
 use lib.ListN.{length, drop, length-append, length-drop}
 use lib.Dec.{eqb}
 use lib.Seq.{take-at, drop-append-add, drop-drop}
 use mathlib.Core.Option.{none}
 use Rattle.series.specs.Causes.{firstCause}
-use Rattle.record.specs.Entries.{isEnd, bodyLength, statedDays, entryCauses}
+use Rattle.record.specs.Entries.{isUnknown, isHead, isEnd, bodyLength, daysOf, value, statedDays, entryCauses}
 use Rattle.record.specs.Reading.{reading}
 use Rattle.record.specs.Reply.{listAfter}
 use Rattle.record.specs.Steps.{isAccepted, stored, entryAt}
+use Rattle.record.proofs.Entered.{head-first, passed}
 use Rattle.record.proofs.Walk.{Walked, begin, begin-front, still-inside, still-no-cause, ended, turn, turn-front}
 
 pub record Written (s list : List ℕ) (at n : ℕ) (days : List ℕ) : Type 0 where
   pub walk : Walked s (length list) at n
   pub so-far : days ≡ walk .front ++ drop n list
 
-pub begin-writing : (s list : List ℕ) → Written s list 0 0 list
+begin-writing : (s list : List ℕ) → Written s list 0 0 list
 begin-writing s list = record { walk = begin s (length list); so-far = rw (begin-front s (length list)) }
 
 -- days stored behind those that stand in the list
@@ -55,3 +57,19 @@ module _ {s list : List ℕ} {at n : ℕ} {days : List ℕ} (w : Written s list 
         w .so-far
         ∙ ap (λ k. w .walk .front ++ drop k list) (sym (w .walk .counted))
         ∙ sym (ap (λ o. listAfter o list) (ended s room at n (w .walk) inside no-cause end))
+
+-- behind the head, which states no days
+pub begin-days : (s list : List ℕ) → isAccepted (reading (length list) s) ≡ true → Written s list 5 0 list
+begin-days s list good =
+    let w = begin-writing s list in
+    let k = head-first (entryAt s 0 .kind) (passed true 0 (length list) (entryAt s 0) (still-no-cause s (length list) 0 0 (w .walk) good) .placed) in
+    let d : [] ≡ statedDays (entryAt s 0) = sym (ap (λ k. daysOf k (value (entryAt s 0))) k) in
+    next-writing w good (ap isEnd k) (sym (ap bodyLength k)) (ap length d) (ap (stored list 0) d)
+
+-- a later entry is known, and no head
+pub later-kind : {s list : List ℕ} {at n : ℕ} {days : List ℕ} → Written s list at n days → isAccepted (reading (length list) s) ≡ true → 0 < at
+    → (isUnknown (entryAt s at .kind) ≡ false) × (isHead (entryAt s at .kind) ≡ false)
+later-kind {s} {list} {at} {n} w good h =
+    let p = passed (eqb at 0) n (length list) (entryAt s at) (still-no-cause s (length list) at n (w .walk) good) in
+    let z : eqb at 0 ≡ false = ne-eqb at 0 (λ z. omega arith) in
+    (p .known, rw z at (p .placed))

@@ -1,10 +1,13 @@
 -- What the private functions promise. None of this stands in the promise of `read`.
-use Prim.Native.Nat.{ℕ, suc, _+_}
+use Prim.Native.Nat.{ℕ, suc, _+_, _≤_}
+use mathlib.Core.Path.{_≡_}
 use mathlib.Core.Bool.{Bool, true, false}
 use mathlib.Core.List.{List, _++_}
 use lib.ListN.{length, getD, take, drop}
 use Rattle.series.specs.Causes.{Outcome, accepted, refused}
-use Rattle.record.specs.Entries.{Entry, entryOf}
+use Rattle.record.specs.declared.entry.Kind.{Kind}
+use Rattle.record.specs.declared.entry.Kind.the-variants.{Head, Flow, MissingDay, MissingDays, End, Unknown}
+use Rattle.record.specs.Entries.{Entry, entryOf, bodyLength, outOfRange, value, statedDays}
 
 -- the entry at a position of the bytes
 abbrev pub entryAt : List ℕ → ℕ → Entry
@@ -17,3 +20,26 @@ isAccepted (refused n) = false
 -- a list with days stored from a position on
 abbrev pub stored : List ℕ → ℕ → List ℕ → List ℕ
 stored list from days = take from list ++ days ++ drop (from + length days) list
+
+-- the kinds that state days
+abbrev pub statesDays : Kind → Bool
+statesDays Head = false
+statesDays Flow = true
+statesDays MissingDay = true
+statesDays MissingDays = true
+statesDays End = false
+statesDays Unknown = false
+
+-- an entry of days at a position behind n days that passes: complete, its value in range, its days within the space
+pub record PassedDays (bytes : List ℕ) (at n space : ℕ) : Type 0 where
+  pub stating : statesDays (entryAt bytes at .kind) ≡ true
+  pub complete : at + 1 + bodyLength (entryAt bytes at .kind) ≤ length bytes
+  pub in-range : outOfRange (entryAt bytes at .kind) (value (entryAt bytes at)) ≡ false
+  pub fits : n + length (statedDays (entryAt bytes at)) ≤ space
+
+-- a step over such an entry, by its bytes and its days; of no bytes only where there is none
+pub record Stepped (bytes : List ℕ) (at n space size days : ℕ) : Type 0 where
+  pub over : (size ≡ 0 → ⊥) → PassedDays bytes at n space
+  pub bytes-taken : (size ≡ 0 → ⊥) → size ≡ 1 + bodyLength (entryAt bytes at .kind)
+  pub days-stated : (size ≡ 0 → ⊥) → days ≡ length (statedDays (entryAt bytes at))
+  pub ends : size ≡ 0 → PassedDays bytes at n space → ⊥

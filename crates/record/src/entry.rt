@@ -1,6 +1,7 @@
 // The entries of a record: one byte of kind, then its body. Numbers are joined directly from the caller's bytes.
 use series::FLOW_LIMIT;
 ghost use mathlib.Core.Path.{_≡_};
+ghost use mathlib.Core.Bool.{false};
 ghost use Prim.Native.Nat.{_+_, _≤_, _<_};
 ghost use lib.ListN.{length, take, drop};
 ghost use Rattle.record.specs.Entries.{number, kindOf, isUnknown, isHead, isEnd, bodyLength, outside, outOfRange, daysOf};
@@ -39,6 +40,23 @@ impl Kind {
             9 => Kind::End,
             _ => Kind::Unknown,
         }
+    }
+
+    // The kind that a byte names where no head and no unknown kind can stand: three tests, and no jump table.
+    pub(crate) fn behind_head(byte: u8) -> Kind
+        requires { ⌜ (isUnknown (kindOf byte) ≡ false) × (isHead (kindOf byte) ≡ false) ⌝ }
+        ensures { λ r. ⌜ r ≡ kindOf byte ⌝ }
+    {
+        if byte == 2 {
+            return Kind::Flow;
+        }
+        if byte == 3 {
+            return Kind::MissingDay;
+        }
+        if byte == 4 {
+            return Kind::MissingDays;
+        }
+        Kind::End
     }
 
     pub(crate) fn is_unknown(self) -> bool

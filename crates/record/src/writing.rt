@@ -45,15 +45,15 @@ fn put(days: &mut [u32], from: usize, kind: Kind, value: u32)
     }
 }
 
-// Stores the days of a record from the list's start on.
+// Stores the days of a record from the list's start on. They stand behind its head.
 pub(crate) fn write_days(bytes: &[u8], days: &mut [u32])
     requires { ⌜ isAccepted (reading (length (now days)) (now bytes)) ≡ true ⌝ }
     ensures { λ _. ⌜ now (days .exit) ≡ listAfter (reading (length (now (days .entry))) (now (bytes .entry))) (now (days .entry)) ⌝ }
 {
-    let mut at = 0;
+    let mut at = 5;
     let mut counted = 0;
     loop {
-        let kind = Kind::of(bytes[at]);
+        let kind = Kind::behind_head(bytes[at]);
         if kind.is_end() {
             return;
         }

@@ -16,12 +16,12 @@ use Rattle.record.specs.Reading.{reading}
 use Rattle.record.specs.Steps.{isAccepted, stored, entryAt}
 use Rattle.record.proofs.Tests.{told, days-are}
 use Rattle.record.proofs.Walk.{still-inside, still-no-cause, body-inside, within-room}
-use Rattle.record.proofs.WritingWalk.{Written, begin-writing, same-length, next-writing, all-written}
+use Rattle.record.proofs.WritingWalk.{Written, begin-days, same-length, next-writing, all-written, later-kind}
 use Rattle.record.proofs.writing.write_days.Statement.{statement}
 use Rattle.record.proofs.writing.write_days.Tie as tie
 
 abbrev Inv-loop : tie.InvT-loop
-Inv-loop bytes days₀ at₀ counted₀ days at counted = Written bytes days₀ at counted days
+Inv-loop bytes days₀ at₀ counted₀ days at counted = Written bytes days₀ at counted days × (0 < at)
 
 abbrev μ-loop : tie.MeasureT-loop
 μ-loop bytes days₀ at₀ counted₀ days at counted = length bytes - at
@@ -36,43 +36,46 @@ good : (c : tie.At-loop Inv-loop μ-loop) → isAccepted (reading (length (list-
 good c = c .before .before .before .pre
 
 inside : (c : tie.At-loop Inv-loop μ-loop) → c .loop .at < length (bytes-of c)
-inside c = still-inside (bytes-of c) (length (list-of c)) (c .loop .at) (c .loop .counted) (c .loop .inv .walk) (good c)
+inside c = still-inside (bytes-of c) (length (list-of c)) (c .loop .at) (c .loop .counted) (c .loop .inv .0 .walk) (good c)
 
 no-cause : (c : tie.At-loop Inv-loop μ-loop) → firstCause (entryCauses (eqb (c .loop .at) 0) (c .loop .counted) (length (list-of c)) (entryAt (bytes-of c) (c .loop .at))) ≡ none
-no-cause c = still-no-cause (bytes-of c) (length (list-of c)) (c .loop .at) (c .loop .counted) (c .loop .inv .walk) (good c)
+no-cause c = still-no-cause (bytes-of c) (length (list-of c)) (c .loop .at) (c .loop .counted) (c .loop .inv .0 .walk) (good c)
 
 loop-holds : tie.Need-loop-holds Inv-loop μ-loop
-loop-holds c = begin-writing (now (c .before .before .args .bytes)) (now (c .before .before .args .days))
+loop-holds c = (begin-days (now (c .before .before .args .bytes)) (now (c .before .before .args .days)) (c .before .before .pre), omega arith)
 
-shared-slice-read-of : tie.Need-shared-slice-read-of Inv-loop μ-loop
-shared-slice-read-of c = inside (c .before)
+shared-slice-read-behind-head : tie.Need-shared-slice-read-behind-head Inv-loop μ-loop
+shared-slice-read-behind-head c = inside (c .before)
+
+behind-head-requires : tie.Need-behind-head-requires Inv-loop μ-loop
+behind-head-requires c κs = let l = c .before in later-kind (l .loop .inv .0) (good l) (l .loop .inv .1)
 
 last : (c : tie.After-is-end Inv-loop μ-loop) {t : Bool} → c .is-end .result ≡ t → isEnd (entryAt (bytes-of (c .before .before .before)) (c .before .before .before .loop .at) .kind) ≡ t
-last c h = told isEnd (c .before .of .ensures) (c .is-end .ensures) h
+last c h = told isEnd (c .before .behind-head .ensures) (c .is-end .ensures) h
 
 list-length : tie.Need-same-length Inv-loop μ-loop
-list-length c = same-length (c .before .before .before .before .loop .inv)
+list-length c = same-length (c .before .before .before .before .loop .inv .0)
 
 returns : tie.Need-returns Inv-loop μ-loop
-returns c = let l = c .before .before .before .before in all-written (l .loop .inv) (good l) (last (c .before) (c .if1 .taken))
+returns c = let l = c .before .before .before .before in all-written (l .loop .inv .0) (good l) (last (c .before) (c .if1 .taken))
 
-body-fits : (c : tie.After-is-end Inv-loop μ-loop) → c .before .before .before .loop .at + 1 + bodyLength (c .before .of .result) ≤ length (bytes-of (c .before .before .before))
+body-fits : (c : tie.After-is-end Inv-loop μ-loop) → c .before .before .before .loop .at + 1 + bodyLength (c .before .behind-head .result) ≤ length (bytes-of (c .before .before .before))
 body-fits c =
     let l = c .before .before .before in
-    omega (arith, body-inside (bytes-of l) (length (list-of l)) (l .loop .at) (l .loop .counted) (l .loop .inv .walk) (inside l) (no-cause l), ap bodyLength (c .before .of .ensures))
+    omega (arith, body-inside (bytes-of l) (length (list-of l)) (l .loop .at) (l .loop .counted) (l .loop .inv .0 .walk) (inside l) (no-cause l), ap bodyLength (c .before .behind-head .ensures))
 
-days-here : (c : tie.After-value-at Inv-loop μ-loop) → daysOf (c .before .before .before .of .result) (c .value-at .result) ≡ statedDays (entryAt (bytes-of (c .before .before .before .before .before)) (c .before .before .before .before .before .loop .at))
+days-here : (c : tie.After-value-at Inv-loop μ-loop) → daysOf (c .before .before .before .behind-head .result) (c .value-at .result) ≡ statedDays (entryAt (bytes-of (c .before .before .before .before .before)) (c .before .before .before .before .before .loop .at))
 days-here c =
     let l = c .before .before .before .before .before in
-    days-are (bytes-of l) (l .loop .at) (c .before .before .before .of .ensures) (c .value-at .ensures)
+    days-are (bytes-of l) (l .loop .at) (c .before .before .before .behind-head .ensures) (c .value-at .ensures)
 
-days-fit : (c : tie.After-value-at Inv-loop μ-loop) → c .before .before .before .before .before .loop .counted + length (daysOf (c .before .before .before .of .result) (c .value-at .result)) ≤ length (list-of (c .before .before .before .before .before))
+days-fit : (c : tie.After-value-at Inv-loop μ-loop) → c .before .before .before .before .before .loop .counted + length (daysOf (c .before .before .before .behind-head .result) (c .value-at .result)) ≤ length (list-of (c .before .before .before .before .before))
 days-fit c =
     let l = c .before .before .before .before .before in
-    omega (arith, within-room (bytes-of l) (length (list-of l)) (l .loop .at) (l .loop .counted) (l .loop .inv .walk) (inside l) (no-cause l), ap length (days-here c))
+    omega (arith, within-room (bytes-of l) (length (list-of l)) (l .loop .at) (l .loop .counted) (l .loop .inv .0 .walk) (inside l) (no-cause l), ap length (days-here c))
 
 put-requires : tie.Need-put-requires Inv-loop μ-loop
-put-requires c κs = omega (arith, days-fit (c .before), same-length (c .before .before .before .before .before .before .loop .inv))
+put-requires c κs = omega (arith, days-fit (c .before), same-length (c .before .before .before .before .before .before .loop .inv .0))
 
 add-counted : tie.Need-add-counted Inv-loop μ-loop
 add-counted c = omega (arith, days-fit (c .before .before .before .before .before), c .day-count .ensures, c .before .before .before .before .before .before .before .before .before .before .before .before .before .good)
@@ -81,7 +84,7 @@ loop-again : tie.Need-loop-again Inv-loop μ-loop
 loop-again c =
     let v = c .before .before .before .before .before .before in
     let l = v .before .before .before .before .before in
-    next-writing (l .loop .inv) (good l) (last (v .before .before) (v .before .if1 .left)) (c .body-length .ensures .0 ∙ ap bodyLength (v .before .before .before .of .ensures)) (c .before .day-count .ensures ∙ ap length (days-here v)) (c .before .before .before .before .put .ensures ∙ ap (stored (l .loop .days) (l .loop .counted)) (days-here v))
+    (next-writing (l .loop .inv .0) (good l) (last (v .before .before) (v .before .if1 .left)) (c .body-length .ensures .0 ∙ ap bodyLength (v .before .before .before .behind-head .ensures)) (c .before .day-count .ensures ∙ ap length (days-here v)) (c .before .before .before .before .put .ensures ∙ ap (stored (l .loop .days) (l .loop .counted)) (days-here v)), omega (arith, l .loop .inv .1))
 
 pub write-days-spec : {M : Type 1} → statement M
 write-days-spec =
@@ -90,8 +93,8 @@ write-days-spec =
     Inv-loop
     μ-loop
     loop-holds
-    shared-slice-read-of
-    (λ c κs. search needs)
+    shared-slice-read-behind-head
+    behind-head-requires
     (λ c κs. search needs)
     list-length
     returns
