@@ -1,5 +1,5 @@
 #!/usr/bin/env python3
-"""Works out, from document 01 alone, what the test program `rivers` has to print.
+"""Works out, by document 01's rules, what the test program `rivers` has to print.
 
     tests/rivers.py > crates/rivers/stdout
     tests/rivers.py check crates/rivers/stdout     fails where the stored text is another
@@ -7,6 +7,7 @@
 The rules are those of tests/rules.py; nothing is shared with the engine. The figures that the source documents publish are asserted where the made river settles them.
 """
 import sys
+from fractions import Fraction
 
 sys.dont_write_bytecode = True
 import rules
@@ -250,12 +251,21 @@ def published():
     for method, p, q, known in ((5, 9780, 8000, 8000), (5, 9780, 5000, 5000), (5, 9780, 2500, 2500), (1, 9000, 0, 10000),
                                 (1, 9250, 0, 10000), (1, 9500, 0, 10000)):
         show_filter(method, p, q, 1, days, base)
-        # the start lies below the steady value, so the index comes near the published one from below
-        assert known - 12 <= show_totals(days, base)[4] <= known
+        assert_index(show_totals(days, base)[4], known, method, p, q, len(days), 1_000_000)
     days, base = steady(1000, 100, 10, 1000), [0] * 1000
     show_line(5, 9000, days, base)
-    m, Y, T, quick, index = show_totals(days, base)
-    assert T == 100_000 * m and abs(index - near(10000 * 10, 19)) <= 40
+    # every block's minimum is 100 and turns: the line goes from day 5 to day 991, with storms on days 10, 20, .. 990
+    m, Y = 987, 987 * 100 + 99 * 900
+    assert show_totals(days, base) == (m, Y, 100_000 * m, 1000 * Y - 100_000 * m, near(10 * 100_000 * m, Y))
+
+
+def assert_index(index, known, method, p, q, count, flow):
+    """A steady river's base flow is the published share of its flow, but for the start: what the start lacks shrinks by A/d a
+    day, so that it lacks that by d / (d - A) in all. The index lies within demand 3's limit of this."""
+    A, _, _, d = rules.weights(method, p, q)
+    lacking = Fraction(known, 10) if method == 5 else Fraction(10000, 2)
+    exact = known - lacking * Fraction(d, d - A) / count
+    assert abs(index - exact) <= Fraction(1, 2) + 10 * Fraction(d, 2 * (d - A)) / flow, (index, exact)
 
 
 def main():

@@ -1,5 +1,5 @@
 // Runs longer and published rivers through the calls and prints what they give: check sums and selected days. The file
-// stdout holds what tests/rivers.py works out from document 01 alone.
+// stdout holds what tests/rivers.py works out by document 01's rules.
 mod calls;
 mod published;
 mod record_of;
