@@ -6,7 +6,8 @@
 Each record is read, separated, stepped through day by day and totalled by the engine (include/baseflow.h). The days
 and the setting are worked out anew with fractions: document 01's rules, near left out. It fails with a message where a
 figure lies outside its limit, a day has a value in one run only, or a refusal is not the one that the rules give. It
-prints the largest share of each limit that was reached. Document 01's worked rivers are held to its figures first.
+prints the largest share of each limit that was reached, and keeps that in target/tests/exact.txt, from which the page of
+guarantees takes its figures. Document 01's worked rivers are held to its figures first.
 """
 import random
 import sys
@@ -14,7 +15,7 @@ from fractions import Fraction
 
 sys.dont_write_bytecode = True
 import rules
-from interface import Engine, Refused
+from interface import Engine, Refused, products
 
 HALF = Fraction(1, 2)
 LINE = 7  # stands for the block-minima line where a method is asked for
@@ -143,7 +144,7 @@ def measure(engine, setting, first, stated, shares):
     if wanted is not None:
         return
     exact, limit = exact_run(method, p, q, n, days), daily_limit(method, p, q, n)
-    name = "line" if method == LINE else f"method 1, {n} passes" if method == 1 else f"method {method}"
+    name = "line" if method == LINE else f"method 1, {n} pass{'es' * (n > 1)}" if method == 1 else f"method {method}"
     shares.days_within(name, days, base, exact, limit)
     if method != LINE and n == 1:
         shares.days_within("daily steps", days, engine.steps(method, p, q, days), exact, limit)
@@ -200,9 +201,10 @@ def main():
         runs += 1
     if runs < LEAST_RUNS:
         sys.exit(f"{runs} runs, where at least {LEAST_RUNS} are wanted")
-    print(f"exact: {runs} runs through the C interface lie within their limits; the largest share of each:")
-    for figure, share in sorted(shares.reached.items()):
-        print(f"  {figure}: {float(share):.3f}")
+    lines = [f"exact: {runs} runs through the C interface lie within their limits; the largest share of each:"]
+    lines += [f"  {figure}: {float(share):.3f}" for figure, share in sorted(shares.reached.items())]
+    (products() / "exact.txt").write_text("\n".join(lines) + "\n")
+    print("\n".join(lines))
 
 
 main()

@@ -4,6 +4,7 @@ The environment's BASEFLOW_ARCHIVE names another archive than target/staticlib/l
 """
 import ctypes
 import os
+import shutil
 import subprocess
 import sys
 from pathlib import Path
@@ -32,6 +33,8 @@ def products():
 
 
 def compile_c(*words):
+    if not shutil.which("gcc"):
+        sys.exit("gcc is not there; it compiles the C that the engine is compared with")
     subprocess.run(["gcc", *WARNINGS, *INCLUDE, *map(str, words)], check=True)
 
 

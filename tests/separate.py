@@ -4,11 +4,12 @@
     tests/separate.py [target/bin/separate]
 
 Runs the program on document 01's sample, on records at every limit, on each refusal that reading can give, on random
-records and on damaged ones, and with input or output closed. Ends with the number of cases that passed, or exits with 1
-and the smallest record that failed.
+records and on damaged ones, with input or output closed, with words behind its name, and with a small stack. Ends with the
+number of cases that passed, or exits with 1 and the smallest record that failed.
 """
 import os
 import random
+import resource
 import signal
 import subprocess
 import sys
@@ -20,6 +21,7 @@ from rules import LAST_FIRST_DAY, MOST_DAYS, MOST_FLOW, Refusal, near, over_stre
 ROOT = os.path.join(os.path.dirname(os.path.abspath(__file__)), "..")
 PROGRAM = os.path.join(ROOT, "target/bin/separate")
 MOST_BYTES, SPACE = 32768, 2048
+STACK = 128 * 1024  # bytes, with what the system puts there before the program begins
 SAMPLE = bytes.fromhex("01000000000264000000 02C800000003 0232000000 0904000000")
 SAMPLE_FILE = os.path.join(ROOT, "samples/sample.record")
 SAMPLE_TEXT = b"day flow base\n0 100 50.000\n1 200 57.500\n2 missing\n3 50 25.000\nindex 0.3786\n"
@@ -118,9 +120,17 @@ def made(seed, count):
         yield bytes(record), None
 
 
-def run(program, record):
-    done = subprocess.run([program], input=record, capture_output=True, timeout=10)
+def run(program, record, *words, **how):
+    done = subprocess.run([program, *words], input=record, capture_output=True, timeout=10, **how)
     return done.returncode, done.stdout, done.stderr
+
+
+# the program takes no words behind its name, and needs little stack, also for the longest text
+def otherwise(program):
+    yield "words behind its name", run(program, SAMPLE, "--help", "record") == (0, SAMPLE_TEXT, b"")
+    longest = record_of(LAST_FIRST_DAY, [MOST_FLOW] * SPACE)
+    small = run(program, longest, env={}, preexec_fn=lambda: resource.setrlimit(resource.RLIMIT_STACK, (STACK, STACK)))
+    yield f"a stack of {STACK} bytes", small == (0, text(longest).encode(), b"")
 
 
 # input that cannot be read, and output that cannot be written: nothing on standard output, a line on standard error
@@ -150,6 +160,8 @@ def main():
     if len(sys.argv) > 2:
         sys.exit(__doc__)
     program = os.path.abspath(sys.argv[1] if len(sys.argv) == 2 else PROGRAM)
+    if not os.path.exists(program):
+        sys.exit(f"{program} is not there; `rt check separate` makes it")
     with open(SAMPLE_FILE, "rb") as sample:
         if sample.read() != SAMPLE:
             sys.exit("samples/sample.record is not document 01's sample")
@@ -164,7 +176,7 @@ def main():
             passed += 1
         else:
             failed.append((len(record), record, wanted, out))
-    for name, good in closed(program):
+    for name, good in [*closed(program), *otherwise(program)]:
         passed += good
         if not good:
             failed.append((MOST_BYTES, name.encode(), "", b""))

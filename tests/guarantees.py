@@ -1,0 +1,92 @@
+#!/usr/bin/env python3
+"""Makes the figures of docs/GUARANTEES.md, in fractions, from document 01's table of methods (tests/rules.py).
+
+    tests/guarantees.py table       P for usual settings
+    tests/guarantees.py example     what P says of an index
+    tests/guarantees.py measured    what tests/exact.py found when it was run last
+
+A limit is rounded up in its last place, and a figure that lies within a limit is rounded away from the middle, so that
+no figure promises too much.
+"""
+import re
+import sys
+from fractions import Fraction
+from math import ceil, floor
+
+sys.dont_write_bytecode = True
+import rules
+from interface import products
+
+NAMES = {1: "1 Lyne-Hollick", 2: "2 Chapman 1991", 3: "3 Chapman-Maxwell", 4: "4 Boughton", 5: "5 Eckhardt",
+         6: "6 Tularam-Ilahee"}
+# method, p, q, passes
+USUAL = ((1, 9250, 0, 1), (1, 9250, 0, 2), (1, 9250, 0, 3), (1, 9000, 0, 1), (1, 9500, 0, 1), (1, 9800, 0, 3),
+         (2, 9250, 0, 1), (2, 9500, 0, 1), (3, 9500, 0, 1), (3, 9700, 0, 1), (4, 9000, 500, 1), (4, 9500, 1000, 1),
+         (5, 9780, 8000, 1), (5, 9780, 5000, 1), (5, 9780, 2500, 1), (6, 9250, 0, 1), (6, 9500, 0, 1))
+LINE_LIMIT = Fraction(1, 2)
+CLOSE = Fraction(98, 100)  # a share of a limit that leaves no room for a much smaller one
+
+
+def daily_limit(method, p, q, passes):
+    A, _, _, d = rules.weights(method, p, q)
+    return Fraction(passes * d, 2 * (d - A))
+
+
+def decimal(value, places):
+    """A number that has so many decimals, exactly."""
+    scaled = floor(value * 10**places)
+    assert scaled == value * 10**places, value
+    return f"{scaled // 10**places}.{scaled % 10**places:0{places}}"
+
+
+def up(value, places):
+    return decimal(Fraction(ceil(value * 10**places), 10**places), places)
+
+
+def down(value, places):
+    return decimal(Fraction(floor(value * 10**places), 10**places), places)
+
+
+def table():
+    yield "| method | p | q | passes | P, in thousandths of a litre a second |"
+    yield "|---|---|---|---|---|"
+    for method, p, q, passes in USUAL:
+        assert rules.bad_setting(method, p, q) is None
+        limit = up(daily_limit(method, p, q, passes), 3)
+        yield f"| {NAMES[method]} | {p} | {str(q) + ' ' if q else ''}| {passes} | {limit} |"
+    yield f"| minima line | any N and g | | | {up(LINE_LIMIT, 3)} |"
+
+
+def example():
+    method, p, q, passes = USUAL[0]
+    mean, index = 100, 6123
+    limit = daily_limit(method, p, q, passes)
+    around = Fraction(1, 2) + 10 * limit / mean
+    yield (f"With method {method}, p {p}, one pass and a mean flow Y / m of {mean} litres a second the index's limit is "
+           f"1/2 + 10 × {up(limit, 3)} / {mean}, which is {up(around, 2)} ten-thousandths: an index of "
+           f"{decimal(Fraction(index, 10000), 4)} stands for an exact one between "
+           f"{down((index - around) / 10000, 4)} and {up((index + around) / 10000, 4)}.")
+
+
+def measured():
+    path = products() / "exact.txt"
+    if not path.exists():
+        sys.exit(f"{path} is not there; `tests/exact.py` makes it")
+    text = path.read_text()
+    runs = re.search(r"exact: (\d+) runs", text)[1]
+    shares = {figure: Fraction(share) for figure, share in re.findall(r"^  (.*): ([\d.]+)$", text, re.MULTILINE)}
+    close = [figure for figure, share in shares.items() if share >= CLOSE]
+    rest = [f"{figure} {float(share):.3f}" for figure, share in shares.items() if share < CLOSE]
+    yield (f"`tests/exact.py` works out {runs} runs anew. The largest share of a limit that was reached is at least "
+           f"{decimal(CLOSE, 2)} for {', '.join(close)}: there no much smaller limit would hold. For the others it is: "
+           f"{', '.join(rest)}.")
+
+
+def main():
+    makers = {"table": table, "example": example, "measured": measured}
+    if len(sys.argv) != 2 or sys.argv[1] not in makers:
+        sys.exit(__doc__)
+    print("\n".join(makers[sys.argv[1]]()))
+
+
+main()
