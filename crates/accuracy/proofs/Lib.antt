@@ -1,6 +1,4 @@
-pub mod Demand3
-mod Composed
-pub mod Summed
-mod Totalled
-mod Rivers
+mod Demand3
+pub mod OneRun
+mod TotalsOfRuns
 mod Sharp

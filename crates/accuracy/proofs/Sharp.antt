@@ -7,18 +7,20 @@ use mathlib.Core.Bool.{Bool, true, false, true≢false, not, _&&_, _||_}
 use mathlib.Core.List.{List, [], _∷_}
 use mathlib.Core.Option.{Option, none, some}
 use mathlib.Core.Logic.{⊎-elim}
-use lib.IntN.{ℤ, pos, _*ℤ_}
+use lib.IntN.{pos, _*ℤ_}
 use lib.Signed.{leZ}
 use lib.Dec.{T}
 use Rattle.numbers.specs.Near.{near}
 use Rattle.numbers.specs.Fraction.{Fraction, whole, half, sum, multiple, quotient, least}
 use Rattle.numbers.specs.Arithmetic.{rounded, exact, weighted, Close}
 use Rattle.series.specs.Segments.{overSegments}
-use Rattle.series.specs.Agreement.{Each, done, then, Agree, no-value, values}
+use Rattle.numbers.specs.Scan.{recursive}
+use Rattle.numbers.specs.Lists.{Each, done, then}
+use Rattle.series.specs.Agreement.{Agree, no-value, values}
 use Rattle.series.proofs.Views.{one-of}
 use Rattle.filter.specs.declared.Setting.{Setting}
 use Rattle.filter.specs.Methods.{methodOf, weights, start}
-use Rattle.filter.specs.Passes.{step, recursive, thousandths, filtered}
+use Rattle.filter.specs.Passes.{step, thousandths, filtered}
 use Rattle.filter.specs.Distance.{limitOf, filterLimit}
 use Rattle.totals.specs.Sums.{BaseDay, baseDays, flowTotal, baseTotal, index}
 

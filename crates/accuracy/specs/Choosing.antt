@@ -6,10 +6,10 @@ use Rattle.numbers.specs.Fraction.{Fraction, half}
 use Rattle.numbers.specs.Arithmetic.{Arithmetic}
 use Rattle.series.specs.Causes.{Cause}
 use Rattle.filter.specs.Passes.{filtered}
-use Rattle.filter.specs.Filtering.{filterCauses, filterLeaves}
+use Rattle.filter.specs.Call.{filterCauses, filterLeaves}
 use Rattle.filter.specs.Distance.{filterLimit}
 use Rattle.minima.specs.Line.{lineOver}
-use Rattle.minima.specs.Drawing.{blockDays, lineCauses, lineLeaves}
+use Rattle.minima.specs.Call.{blocksOf, lineCauses, lineLeaves}
 use Rattle.accuracy.specs.declared.Choice.{Choice}
 use Rattle.accuracy.specs.declared.Choice.the-variants.{Filter, Line}
 
@@ -26,7 +26,7 @@ chosenLeaves (Line s) days base = lineLeaves s days base
 -- the base flow over a list with gaps, in any arithmetic
 abbrev pub chosenRun : (S : Arithmetic) → Choice → List (Option ℕ) → List (Option (S .Number))
 chosenRun S (Filter s n) days = filtered S s n days
-chosenRun S (Line s) days = lineOver S (blockDays s) (s .factor) days
+chosenRun S (Line s) days = lineOver S (blocksOf s) days
 
 -- P, the daily limit: n × d / (2 × (d - A)) after pass n, 1/2 for the line
 abbrev pub chosenLimit : Choice → Fraction

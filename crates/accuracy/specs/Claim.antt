@@ -7,17 +7,19 @@ use Rattle.numbers.specs.Fraction.{Fraction}
 use Rattle.numbers.specs.Arithmetic.{rounded, exact}
 use Rattle.series.specs.Units.{dayOf, baseMark}
 use Rattle.series.specs.Causes.{accepted, refused}
-use Rattle.series.specs.Agreement.{Each, Agree}
+use Rattle.numbers.specs.Lists.{Each}
+use Rattle.series.specs.Agreement.{Agree}
 use Rattle.filter.specs.declared.Setting.{Setting}
 use Rattle.filter.specs.Passes.{filtered}
-use Rattle.filter.specs.Daily.{fresh, stepsFrom}
+use Rattle.filter.specs.Daily.{fresh}
+use Rattle.filter.specs.Call.{stepsFrom}
 use Rattle.filter.specs.Distance.{filterLimit}
 use Rattle.totals.specs.Sums.{baseDays, flowTotal}
-use Rattle.totals.specs.Totalling.{totalsOf, totalsOutcome}
+use Rattle.totals.specs.Call.{totalsOf, totalsOutcome}
 use Rattle.accuracy.specs.declared.Choice.{Choice}
 use Rattle.accuracy.specs.declared.Choice.the-variants.{Filter, Line}
 use Rattle.accuracy.specs.Choosing.{chosenRun, chosenLimit}
-use Rattle.accuracy.specs.Limits.{TotalsWithin}
+use Rattle.totals.specs.Distance.{TotalsWithin}
 
 -- the base flow of the rounded run over the days of a record, and of the exact run over the same days
 abbrev pub roundedBase : Choice → List ℕ → List (Option ℕ)

@@ -1,4 +1,3 @@
 pub mod Claim
 pub mod Choosing
-pub mod Limits
-pub mod Separating
+pub mod Call

@@ -7,10 +7,9 @@ use series::Verdict;
 ghost use mathlib.Core.Path.{_≡_};
 ghost use lib.ListN.{length};
 ghost use Rattle.series.specs.Causes.{refusalOf, firstCause};
-ghost use Rattle.record.specs.Reading.{reading};
-ghost use Rattle.record.specs.Reply.{listAfter};
+ghost use Rattle.record.specs.Call.{reading, readLeaves};
 ghost use Rattle.accuracy.specs.Choosing.{chosenCauses, chosenLeaves};
-ghost use Rattle.accuracy.specs.Separating.{overDays, baseAfter, afterReading, baseAtEnd, separationOf, Carried};
+ghost use Rattle.accuracy.specs.Call.{overDays, baseAfter, afterReading, baseAtEnd, outcomeOf, Carried};
 
 // How base flow is to be found.
 pub enum Choice {
@@ -39,8 +38,8 @@ pub enum Separation {
 
 // Reads a record into the day list, finds its base flow into the front of the base list, and its totals.
 pub fn separate(bytes: &[u8], choice: Choice, days: &mut [u32], base: &mut [u64]) -> Separation
-    ensures answer { λ r. ⌜ separationOf r ≡ afterReading (reading (length (now (days .entry))) (now (bytes .entry))) choice (now (base .entry)) ⌝ }
-    ensures day_list { λ _. ⌜ now (days .exit) ≡ listAfter (reading (length (now (days .entry))) (now (bytes .entry))) (now (days .entry)) ⌝ }
+    ensures answer { λ r. ⌜ outcomeOf r ≡ afterReading (reading (length (now (days .entry))) (now (bytes .entry))) choice (now (base .entry)) ⌝ }
+    ensures day_list { λ _. ⌜ now (days .exit) ≡ readLeaves (reading (length (now (days .entry))) (now (bytes .entry))) (now (days .entry)) ⌝ }
     ensures base_list { λ _. ⌜ now (base .exit) ≡ baseAtEnd (reading (length (now (days .entry))) (now (bytes .entry))) choice (now (base .entry)) ⌝ }
     ensures demand_3 { λ r. ⌜ Carried choice r (now (days .exit)) (now (base .exit)) ⌝ }
 {
@@ -69,7 +68,7 @@ fn over_days(
     base: &mut [u64],
 ) -> Separation
     requires { ⌜ «day_count» ≡ length (now days) ⌝ }
-    ensures { λ r. ⌜ separationOf r ≡ overDays choice «first_day» (now (days .entry)) (now (base .entry)) ⌝ }
+    ensures { λ r. ⌜ outcomeOf r ≡ overDays choice «first_day» (now (days .entry)) (now (base .entry)) ⌝ }
     ensures { λ _. ⌜ now (base .exit) ≡ baseAfter choice (now (days .entry)) (now (base .entry)) ⌝ }
 {
     let n = numbers::least(days.len(), base.len());

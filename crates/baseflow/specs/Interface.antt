@@ -1,31 +1,30 @@
 -- The C interface (include/baseflow.h): what a function returns and writes, of what its call comes to.
 use Prim.Native.Nat.{ℕ}
 use mathlib.Core.Bool.{cond}
-use mathlib.Core.Option.{Option, none, some}
+use mathlib.Core.Option.{Option}
 use lib.Dec.{eqb}
 use Rattle.series.specs.Units.{baseMark}
-use Rattle.series.specs.Causes.{Outcome, accepted, refused}
+use Rattle.series.specs.Causes.{Outcome, byCause, byOutcome}
 use Rattle.filter.specs.declared.Setting.{Setting}
 use Rattle.filter.specs.declared.Yesterday.{Yesterday}
 use Rattle.filter.specs.declared.Yesterday.the-variants.{Unknown, Known}
 use Rattle.filter.specs.declared.DailyFilter.{DailyFilter}
-use Rattle.filter.specs.Daily.{fresh, after, Stepped}
+use Rattle.filter.specs.Daily.{fresh, after}
+use Rattle.filter.specs.Call.{StepOutcome}
 use Rattle.minima.specs.declared.LineSetting.{LineSetting}
+use Rattle.baseflow.specs.declared.StateNumbers.{StateNumbers}
 
 -- what is returned: 0, or the number of the refusal
 abbrev pub returned : {A : Type 0} → Outcome A → ℕ
-returned (accepted a) = 0
-returned (refused n) = n
+returned o = byOutcome o (λ n. n) (λ _. 0)
 
 -- the same, by the first cause of refusal
 abbrev pub returnedCause : Option ℕ → ℕ
-returnedCause none = 0
-returnedCause (some n) = n
+returnedCause first = byCause first (λ n. n) 0
 
 -- an out-parameter at exit: one of the values, or what it was where the call refuses
 abbrev pub handedOut : {A : Type 0} → (A → ℕ) → Outcome A → ℕ → ℕ
-handedOut value (accepted a) entry = value a
-handedOut value (refused n) entry = entry
+handedOut value o entry = byOutcome o (λ _. entry) value
 
 -- settings
 abbrev pub settingOf : (method p q : ℕ) → Setting
@@ -39,22 +38,14 @@ unfoldable pub stateOf : (has flow base : ℕ) → DailyFilter
 stateOf has flow base = cond (eqb has 0) fresh (after flow base)
 
 -- a state as it is handed out: 1 with yesterday's flow and base, or all three 0
-abbrev pub hasYesterday : Yesterday → ℕ
-hasYesterday Unknown = 0
-hasYesterday (Known y b) = 1
+abbrev pub stateNumbers : Yesterday → StateNumbers
+stateNumbers Unknown = record { has = 0; flow = 0; base = 0 }
+stateNumbers (Known y b) = record { has = 1; flow = y; base = b }
 
-abbrev pub flowOf : Yesterday → ℕ
-flowOf Unknown = 0
-flowOf (Known y b) = y
-
-abbrev pub baseOf : Yesterday → ℕ
-baseOf Unknown = 0
-baseOf (Known y b) = b
-
--- a part of the state at exit of a step, or what it was where the step refuses
-abbrev pub stateOut : (Yesterday → ℕ) → Stepped → ℕ → ℕ
-stateOut part s entry = handedOut (λ _. part (s .state .yesterday)) (s .outcome) entry
+-- one of the state's numbers at exit of a step, or what it was where the step refuses
+abbrev pub stateOut : (StateNumbers → ℕ) → StepOutcome → ℕ → ℕ
+stateOut number s entry = handedOut (λ _. number (stateNumbers (s .state .yesterday))) (s .outcome) entry
 
 -- the day's base value at exit, 2^64 - 1 on a missing day, or what it was where the step refuses
-abbrev pub valueOut : Stepped → ℕ → ℕ
+abbrev pub valueOut : StepOutcome → ℕ → ℕ
 valueOut s entry = handedOut baseMark (s .outcome) entry

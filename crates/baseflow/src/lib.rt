@@ -9,14 +9,12 @@ use series::Verdict;
 ghost use mathlib.Core.Path.{_≡_};
 ghost use lib.ListN.{length};
 ghost use Rattle.series.specs.Causes.{refusalOf, firstCause};
-ghost use Rattle.record.specs.Reading.{reading};
-ghost use Rattle.record.specs.Reply.{replyOf, listAfter};
-ghost use Rattle.filter.specs.Filtering.{filterCauses, filterLeaves};
-ghost use Rattle.filter.specs.Daily.{stepRule};
-ghost use Rattle.minima.specs.Drawing.{lineCauses, lineLeaves};
-ghost use Rattle.totals.specs.Totalling.{totalsOutcome};
+ghost use Rattle.record.specs.Call.{reading, replyOf, readLeaves};
+ghost use Rattle.filter.specs.Call.{filterCauses, filterLeaves, stepRule};
+ghost use Rattle.minima.specs.Call.{lineCauses, lineLeaves};
+ghost use Rattle.totals.specs.Call.{totalsOutcome};
 ghost use Rattle.recession.specs.Call.{countedLimbs, ratioOutcome, LimbList};
-ghost use Rattle.baseflow.specs.Interface.{returned, returnedCause, handedOut, settingOf, lineSettingOf, stateOf, hasYesterday, flowOf, baseOf, valueOut, stateOut};
+ghost use Rattle.baseflow.specs.Interface.{returned, returnedCause, handedOut, settingOf, lineSettingOf, stateOf, stateNumbers, valueOut, stateOut};
 
 // 0 for an accepted call, else the number of its refusal.
 fn number(verdict: Verdict) -> u32
@@ -37,7 +35,7 @@ pub extern "C" fn baseflow_read(
     day_count: &mut u32,
 ) -> u32
     ensures { λ r. ⌜ r ≡ returned (replyOf (reading (length (now (days .entry))) (now (bytes .entry)))) ⌝ }
-    ensures { λ _. ⌜ now (days .exit) ≡ listAfter (reading (length (now (days .entry))) (now (bytes .entry))) (now (days .entry)) ⌝ }
+    ensures { λ _. ⌜ now (days .exit) ≡ readLeaves (reading (length (now (days .entry))) (now (bytes .entry))) (now (days .entry)) ⌝ }
     ensures { λ _. ⌜ now («first_day» .exit) ≡ handedOut (λ s. s .firstDay) (replyOf (reading (length (now (days .entry))) (now (bytes .entry)))) (now («first_day» .entry)) ⌝ }
     ensures { λ _. ⌜ now («day_count» .exit) ≡ handedOut (λ s. s .dayCount) (replyOf (reading (length (now (days .entry))) (now (bytes .entry)))) (now («day_count» .entry)) ⌝ }
 {
@@ -140,7 +138,7 @@ pub extern "C" fn baseflow_recession(
 }
 
 // The daily step's state in three numbers.
-struct Known {
+struct StateNumbers {
     has: u32,
     flow: u32,
     base: u64,
@@ -159,17 +157,17 @@ fn state_of(has: u32, flow: u32, base: u64) -> DailyFilter
 }
 
 // The three numbers of a state.
-fn known_of(state: DailyFilter) -> Known
-    ensures { λ r. ⌜ (r .has ≡ hasYesterday (state .yesterday)) × (r .flow ≡ flowOf (state .yesterday)) × (r .base ≡ baseOf (state .yesterday)) ⌝ }
+fn numbers_of(state: DailyFilter) -> StateNumbers
+    ensures { λ r. ⌜ (r .has ≡ stateNumbers (state .yesterday) .has) × (r .flow ≡ stateNumbers (state .yesterday) .flow) × (r .base ≡ stateNumbers (state .yesterday) .base) ⌝ }
 {
     let yesterday = state.yesterday;
     match yesterday {
-        Yesterday::Unknown => Known {
+        Yesterday::Unknown => StateNumbers {
             has: 0,
             flow: 0,
             base: 0,
         },
-        Yesterday::Known { flow, base } => Known { has: 1, flow, base },
+        Yesterday::Known { flow, base } => StateNumbers { has: 1, flow, base },
     }
 }
 
@@ -186,9 +184,9 @@ pub extern "C" fn baseflow_step(
     value: &mut u64,
 ) -> u32
     ensures { λ r. ⌜ r ≡ returned (stepRule (settingOf method p q) (stateOf (now («has_yesterday» .entry)) (now (flow .entry)) (now (base .entry))) day .outcome) ⌝ }
-    ensures { λ _. ⌜ now («has_yesterday» .exit) ≡ stateOut hasYesterday (stepRule (settingOf method p q) (stateOf (now («has_yesterday» .entry)) (now (flow .entry)) (now (base .entry))) day) (now («has_yesterday» .entry)) ⌝ }
-    ensures { λ _. ⌜ now (flow .exit) ≡ stateOut flowOf (stepRule (settingOf method p q) (stateOf (now («has_yesterday» .entry)) (now (flow .entry)) (now (base .entry))) day) (now (flow .entry)) ⌝ }
-    ensures { λ _. ⌜ now (base .exit) ≡ stateOut baseOf (stepRule (settingOf method p q) (stateOf (now («has_yesterday» .entry)) (now (flow .entry)) (now (base .entry))) day) (now (base .entry)) ⌝ }
+    ensures { λ _. ⌜ now («has_yesterday» .exit) ≡ stateOut (λ n. n .has) (stepRule (settingOf method p q) (stateOf (now («has_yesterday» .entry)) (now (flow .entry)) (now (base .entry))) day) (now («has_yesterday» .entry)) ⌝ }
+    ensures { λ _. ⌜ now (flow .exit) ≡ stateOut (λ n. n .flow) (stepRule (settingOf method p q) (stateOf (now («has_yesterday» .entry)) (now (flow .entry)) (now (base .entry))) day) (now (flow .entry)) ⌝ }
+    ensures { λ _. ⌜ now (base .exit) ≡ stateOut (λ n. n .base) (stepRule (settingOf method p q) (stateOf (now («has_yesterday» .entry)) (now (flow .entry)) (now (base .entry))) day) (now (base .entry)) ⌝ }
     ensures { λ _. ⌜ now (value .exit) ≡ valueOut (stepRule (settingOf method p q) (stateOf (now («has_yesterday» .entry)) (now (flow .entry)) (now (base .entry))) day) (now (value .entry)) ⌝ }
 {
     let state = state_of(*has_yesterday, *flow, *base);
@@ -200,10 +198,10 @@ pub extern "C" fn baseflow_step(
             state: next,
             base: b,
         } => {
-            let known = known_of(next);
-            *has_yesterday = known.has;
-            *flow = known.flow;
-            *base = known.base;
+            let numbers = numbers_of(next);
+            *has_yesterday = numbers.has;
+            *flow = numbers.flow;
+            *base = numbers.base;
             *value = b;
             0
         }

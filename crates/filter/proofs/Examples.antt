@@ -1,5 +1,5 @@
--- Computed examples: document 01's filter rivers, three passes that differ, a river with gaps for each method, and the
--- refusals at the edges of the ranges.
+-- Computed examples: three passes that differ, a river with gaps for each method, and the refusals at the edges of the
+-- ranges. (Document 01's own rivers stand in one list, in accuracy's proofs/Rivers.antt.)
 -- Assumes nothing.
 use Prim.Native.Nat.{ℕ}
 use mathlib.Core.Path.{_≡_, refl}
@@ -7,14 +7,15 @@ use mathlib.Core.List.{List, [], _∷_}
 use mathlib.Core.Option.{Option, none, some}
 use Rattle.numbers.specs.Near.{near}
 use Rattle.numbers.specs.Arithmetic.{rounded, weighted}
+use Rattle.numbers.specs.Scan.{recursive}
 use Rattle.series.specs.Segments.{overSegments}
 use Rattle.series.specs.Causes.{firstCause}
 use Rattle.series.specs.Lists.{tooLong, lengthsDiffer, anyInvalidDay}
 use Rattle.series.specs.Units.{isInvalidDay, within}
 use Rattle.filter.specs.declared.Setting.{Setting}
 use Rattle.filter.specs.Methods.{methodOf, weights, start, inRange, unknownMethod, outOfRange, invalidPasses}
-use Rattle.filter.specs.Passes.{step, recursive, thousandths, filtered}
-use Rattle.filter.specs.Filtering.{filterCauses}
+use Rattle.filter.specs.Passes.{step, thousandths, filtered}
+use Rattle.filter.specs.Call.{filterCauses}
 
 abbrev setting : (method p q : ℕ) → Setting
 setting m p q = record { method = m; p = p; q = q }
@@ -22,23 +23,6 @@ setting m p q = record { method = m; p = p; q = q }
 -- the base flow of a river, in thousandths
 abbrev base : Setting → (passes : ℕ) → List (Option ℕ) → List (Option ℕ)
 base s n days = filtered rounded s n days
-
-six-days : List (Option ℕ)
-six-days = some 1 ∷ some 1 ∷ some 1 ∷ some 1 ∷ some 1 ∷ some 1 ∷ []
-
-rivers :
-    base (setting 1 9250 0) 1 (some 100 ∷ some 200 ∷ [])
-    ∷ base (setting 1 9250 0) 1 (some 1000 ∷ some 10 ∷ [])
-    ∷ base (setting 5 9770 8000) 1 (some 100 ∷ some 100 ∷ [])
-    ∷ base (setting 6 5000 0) 1 six-days
-    ∷ []
-    ≡ (some 50000 ∷ some 57500 ∷ [])
-    ∷ (some 500000 ∷ some 10000 ∷ [])
-    ∷ (some 72000 ∷ some 72842 ∷ [])
-    ∷ (some 500 ∷ some 750 ∷ some 875 ∷ some 938 ∷ some 969 ∷ some 985 ∷ [])
-    ∷ []
-unfolding six-days filtered overSegments methodOf weights start step recursive thousandths weighted near
-rivers = refl
 
 storm : List (Option ℕ)
 storm = some 10 ∷ some 200 ∷ some 10 ∷ []

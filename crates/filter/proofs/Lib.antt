@@ -1,10 +1,10 @@
 pub mod Sentences
-pub mod Table
-pub mod Segmented
+mod Table
+mod GapRuns
 pub mod Distance
-pub mod Listed
-mod Numbered
+mod BaseLists
+mod MethodNumbers
 mod Days
 mod Turns
-mod Calls
+pub mod Calls
 mod Examples

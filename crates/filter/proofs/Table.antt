@@ -1,102 +1,124 @@
 -- What the ranges of document 01's table make of its coefficients, shown once for each row.
 -- Assumes nothing.
 use Prim.Native.Nat.{ℕ, _+_, _*_, _-_, _≤_, _<_}
-use mathlib.Core.Path.{_≡_, refl, ap, ap₂}
-use mathlib.Core.Bool.{Bool, true, false, false≢true, _&&_}
-use native.Mathlib.Nat.{mul-le-mul-right}
+use mathlib.Core.Path.{_≡_, sym, ap, ap₂, subst}
+use mathlib.Core.Bool.{true, false, not, _&&_}
+use mathlib.Core.Logic.{by-cases}
+use native.Mathlib.Decide.{decLe}
+use native.Mathlib.Nat.{mul-le-mul-left, mul-le-mul-right, lt-of-not-le}
 use native.Mathlib.Omega.{arith}
-use borrow.Author.Tests.{leb-true, eqb-true, not-false}
-use lib.Dec.{eqb}
+use borrow.Author.Tests.{eqb-true, lt-ltb, not-false}
+use lib.Dec.{ltb, eqb}
 use Rattle.series.specs.Units.{within}
+use Rattle.series.proofs.Views.{neither-of, both-of, lies, not-outside}
 use Rattle.numbers.specs.Arithmetic.{Weights, rounded}
 use Rattle.numbers.proofs.Rounding.{near-at-most}
 use Rattle.filter.specs.declared.Setting.{Setting}
-use Rattle.filter.specs.Methods.{Method, lyne-hollick, chapman-1991, chapman-maxwell, boughton, eckhardt, tularam-ilahee, methodOf, weights, inRange, start, outOfRange}
-use Rattle.filter.specs.Ranges.{Moderate}
-
-both : (a b : Bool) → (a && b) ≡ true → (a ≡ true) × (b ≡ true)
-both true b e = (refl, e)
-both false b e = absurd (false≢true e)
-
-pub lies : (low high n : ℕ) → within low high n ≡ true → (low ≤ n) × (n ≤ high)
-unfolding within
-lies low high n e = let h = both _ _ e in (leb-true low n (h .0), leb-true n high (h .1))
+use Rattle.filter.specs.Methods.{Method, lyne-hollick, chapman-1991, chapman-maxwell, boughton, eckhardt, tularam-ilahee, methodOf, methodWeights, weights, methodRange, inRange, methodStart, start, outOfRange, invalidPasses, Usable}
+use Rattle.filter.specs.Private.{Moderate}
 
 -- the ranges of a row as inequalities
-abbrev pub Limits : Method → (p q : ℕ) → Type 0
-Limits lyne-hollick p q = (1 ≤ p) × (p ≤ 9999) × (q ≡ 0)
-Limits chapman-1991 p q = (3334 ≤ p) × (p ≤ 9999) × (q ≡ 0)
-Limits chapman-maxwell p q = (1 ≤ p) × (p ≤ 9999) × (q ≡ 0)
-Limits boughton p q = (1 ≤ p) × (p ≤ 9999) × (1 ≤ q) × (q ≤ 10000)
-Limits eckhardt p q = (1 ≤ p) × (p ≤ 9999) × (1 ≤ q) × (q ≤ 9999)
-Limits tularam-ilahee p q = (1 ≤ p) × (p ≤ 9999) × (q ≡ 0)
+abbrev pub MethodLimits : Method → Setting → Type 0
+MethodLimits lyne-hollick s = (1 ≤ s .p) × (s .p ≤ 9999) × (s .q ≡ 0)
+MethodLimits chapman-1991 s = (3334 ≤ s .p) × (s .p ≤ 9999) × (s .q ≡ 0)
+MethodLimits chapman-maxwell s = (1 ≤ s .p) × (s .p ≤ 9999) × (s .q ≡ 0)
+MethodLimits boughton s = (1 ≤ s .p) × (s .p ≤ 9999) × (1 ≤ s .q) × (s .q ≤ 10000)
+MethodLimits eckhardt s = (1 ≤ s .p) × (s .p ≤ 9999) × (1 ≤ s .q) × (s .q ≤ 9999)
+MethodLimits tularam-ilahee s = (1 ≤ s .p) × (s .p ≤ 9999) × (s .q ≡ 0)
+
+abbrev pub Limits : Setting → Type 0
+Limits s = MethodLimits (methodOf (s .method)) s
 
 one-parameter : (low p q : ℕ) → (within low 9999 p && eqb q 0) ≡ true → (low ≤ p) × (p ≤ 9999) × (q ≡ 0)
-one-parameter low p q e = let h = both _ _ e in let l = lies low 9999 p (h .0) in (l .0, l .1, eqb-true q 0 (h .1))
+one-parameter low p q e = let h = both-of _ _ e in let l = lies low 9999 p (h .0) in (l .0, l .1, eqb-true q 0 (h .1))
 
 two-parameters : (high p q : ℕ) → (within 1 9999 p && within 1 high q) ≡ true → (1 ≤ p) × (p ≤ 9999) × (1 ≤ q) × (q ≤ high)
 two-parameters high p q e =
-    let h = both _ _ e in
+    let h = both-of _ _ e in
     let l = lies 1 9999 p (h .0) in
     let m = lies 1 high q (h .1) in
     (l .0, l .1, m .0, m .1)
 
-pub limits : (m : Method) (p q : ℕ) → inRange m p q ≡ true → Limits m p q
-unfolding inRange
-limits lyne-hollick p q e = one-parameter 1 p q e
-limits chapman-1991 p q e = one-parameter 3334 p q e
-limits chapman-maxwell p q e = one-parameter 1 p q e
-limits boughton p q e = two-parameters 10000 p q e
-limits eckhardt p q e = two-parameters 9999 p q e
-limits tularam-ilahee p q e = one-parameter 1 p q e
+method-limits : (m : Method) (s : Setting) → methodRange m s ≡ true → MethodLimits m s
+unfolding methodRange
+method-limits lyne-hollick s e = one-parameter 1 (s .p) (s .q) e
+method-limits chapman-1991 s e = one-parameter 3334 (s .p) (s .q) e
+method-limits chapman-maxwell s e = one-parameter 1 (s .p) (s .q) e
+method-limits boughton s e = two-parameters 10000 (s .p) (s .q) e
+method-limits eckhardt s e = two-parameters 9999 (s .p) (s .q) e
+method-limits tularam-ilahee s e = one-parameter 1 (s .p) (s .q) e
+
+pub limits : {s : Setting} → Usable s → Limits s
+unfolding outOfRange inRange
+limits {s} u = method-limits (methodOf (s .method)) s (not-false (methodRange (methodOf (s .method)) s) (u .in-range))
 
 -- what every proof uses of a row
 pub record Row (w : Weights) : Type 0 where
-  pub mean : w .A + w .B + w .C ≤ w .d
   pub below : w .A < w .d
   pub moderate : Moderate w
 
 -- p (10000 - q) and (10000 - p) q with a = 10000 - p and b = 10000 - q
-products : (p q a b : ℕ) → p + a ≡ 10000 → q + b ≡ 10000 → 1 ≤ a
-    → (p * b + a * q + p * q ≤ 100000000) × (p * b + p * q < 100000000) × (p * b ≤ 100000000) × (a * q ≤ 100000000)
+products : (p q a b : ℕ) → p + a ≡ 10000 → q + b ≡ 10000 → 1 ≤ a → (p * b + p * q < 100000000) × (p * b ≤ 100000000) × (a * q ≤ 100000000)
 products p q a b e f h =
     let whole : (p + a) * (q + b) ≡ 100000000 = ap₂ _*_ e f in
     let part : a * (q + b) ≡ a * 10000 = ap (λ n. a * n) f in
     omega arith
 
-abbrev pub Products : (p q : ℕ) → Type 0
-Products p q = (p * (10000 - q) ≤ 100000000) × ((10000 - p) * q ≤ 100000000) × (p * q ≤ 100000000)
+pub eckhardt-products : (s : Setting) → MethodLimits eckhardt s
+    → (s .p * (10000 - s .q) + s .p * s .q < 100000000) × (s .p * (10000 - s .q) ≤ 100000000) × ((10000 - s .p) * s .q ≤ 100000000)
+eckhardt-products s l = products (s .p) (s .q) (10000 - s .p) (10000 - s .q) (omega arith) (omega arith) (omega arith)
 
-pub eckhardt-products : (p q : ℕ) → Limits eckhardt p q → Products p q
-eckhardt-products p q l =
-    let e : p + (10000 - p) ≡ 10000 = omega arith in
-    let f : q + (10000 - q) ≡ 10000 = omega arith in
-    omega (arith, products p q (10000 - p) (10000 - q) e f (omega arith))
+method-row : (m : Method) (s : Setting) → MethodLimits m s → Row (methodWeights m s)
+unfolding methodWeights
+method-row lyne-hollick s l = record { below = omega arith; moderate = omega arith }
+method-row chapman-1991 s l = record { below = omega arith; moderate = omega arith }
+method-row chapman-maxwell s l = record { below = omega arith; moderate = omega arith }
+method-row boughton s l = record { below = omega arith; moderate = omega arith }
+method-row eckhardt s l = let h = eckhardt-products s l in record { below = omega arith; moderate = omega arith }
+method-row tularam-ilahee s l = record { below = omega arith; moderate = omega arith }
 
-pub row : (m : Method) (p q : ℕ) → Limits m p q → Row (weights m p q)
+-- a usable setting's row, by its method
+pub row : {s : Setting} → Usable s → Row (weights s)
 unfolding weights
-row lyne-hollick p q l = record { mean = omega arith; below = omega arith; moderate = omega arith }
-row chapman-1991 p q l = record { mean = omega arith; below = omega arith; moderate = omega arith }
-row chapman-maxwell p q l = record { mean = omega arith; below = omega arith; moderate = omega arith }
-row boughton p q l = record { mean = omega arith; below = omega arith; moderate = omega arith }
-row eckhardt p q l =
-    let e : p + (10000 - p) ≡ 10000 = omega arith in
-    let f : q + (10000 - q) ≡ 10000 = omega arith in
-    let h = products p q (10000 - p) (10000 - q) e f (omega arith) in
-    record { mean = omega arith; below = omega arith; moderate = omega arith }
-row tularam-ilahee p q l = record { mean = omega arith; below = omega arith; moderate = omega arith }
+row {s} u = method-row (methodOf (s .method)) s (limits u)
 
--- a usable setting's row
-pub usable-limits : (s : Setting) → outOfRange s ≡ false → Limits (methodOf (s .method)) (s .p) (s .q)
-unfolding outOfRange
-usable-limits s e = limits (methodOf (s .method)) (s .p) (s .q) (not-false _ e)
+-- the usual start lies at or below the flow
+method-start-below : (m : Method) (s : Setting) (y : ℕ) → MethodLimits m s → methodStart rounded m s y ≤ 1000 * y
+unfolding methodStart
+method-start-below lyne-hollick s y l = omega arith
+method-start-below chapman-1991 s y l = omega arith
+method-start-below chapman-maxwell s y l = omega arith
+method-start-below boughton s y l = omega arith
+method-start-below eckhardt s y l = near-at-most (omega arith) (omega (arith, mul-le-mul-right y (l .3)))
+method-start-below tularam-ilahee s y l = omega arith
 
--- the start lies at or below the flow
-pub start-below : (m : Method) (p q y : ℕ) → Limits m p q → start rounded m q y ≤ 1000 * y
+pub start-below : {s : Setting} → Usable s → (y : ℕ) → start rounded s y ≤ 1000 * y
 unfolding start
-start-below lyne-hollick p q y l = omega arith
-start-below chapman-1991 p q y l = omega arith
-start-below chapman-maxwell p q y l = omega arith
-start-below boughton p q y l = omega arith
-start-below eckhardt p q y l = near-at-most (omega arith) (omega (arith, mul-le-mul-right y (l .3)))
-start-below tularam-ilahee p q y l = omega arith
+start-below {s} u y = method-start-below (methodOf (s .method)) s y (limits u)
+
+-- the numbers of passes that a setting may have
+pub passes-range : (s : Setting) (n : ℕ) → invalidPasses s n ≡ false → (1 ≤ n) × (n ≤ 3)
+unfolding invalidPasses
+passes-range s n e = not-outside 1 3 n (neither-of _ _ e .0)
+
+pub two-passes : (s : Setting) → invalidPasses s 3 ≡ false → invalidPasses s 2 ≡ false
+unfolding invalidPasses
+two-passes s v = v
+
+-- A step of pass k + 1 is a mean over A, B and C. Pass 1 needs none of it: there k is 0.
+abbrev pub Mean : Weights → (k : ℕ) → Type 0
+Mean w k = k * (w .A + w .B + w .C) ≤ k * w .d
+
+mean-1 : {s : Setting} → Usable s → s .method ≡ 1 → weights s .A + weights s .B + weights s .C ≤ weights s .d
+unfolding weights methodOf
+mean-1 {s} u e = subst (λ m. MethodLimits m s → methodWeights m s .A + methodWeights m s .B + methodWeights m s .C ≤ methodWeights m s .d) (sym (ap methodOf e)) (λ l. omega arith) (limits u)
+
+-- passes over 1 are method 1's
+pub passes-mean : {s : Setting} → Usable s → (n : ℕ) → invalidPasses s n ≡ false → Mean (weights s) (n - 1)
+unfolding invalidPasses
+passes-mean {s} u n e =
+    by-cases (decLe n 1)
+    (λ h. let z : n - 1 ≡ 0 = omega arith in rw z (omega arith))
+    (λ h. let over : ltb 1 n ≡ true = lt-ltb 1 n (lt-of-not-le h) in
+    let one : eqb (s .method) 1 ≡ true = not-false _ (rw over at (neither-of (not (within 1 3 n)) (ltb 1 n && not (eqb (s .method) 1)) e .1)) in
+    mul-le-mul-left (n - 1) (mean-1 u (eqb-true (s .method) 1 one)))

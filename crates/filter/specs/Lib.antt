@@ -1,7 +1,6 @@
 pub mod Methods
 pub mod Passes
 pub mod Daily
-pub mod Filtering
+pub mod Call
 pub mod Distance
-pub mod Ranges
-pub mod Runs
+pub mod Private

@@ -1,6 +1,7 @@
--- The six filters (document 01, "Filters"): a row of the table for each method.
+-- The six filters (document 01, "Filters"): a row of the table for each method. A row reads the whole setting.
 use Prim.Native.Nat.{ℕ, _+_, _*_, _-_}
-use mathlib.Core.Bool.{Bool, cond, not, _&&_, _||_}
+use mathlib.Core.Path.{_≡_}
+use mathlib.Core.Bool.{Bool, false, cond, not, _&&_, _||_}
 use lib.Dec.{ltb, eqb}
 use Rattle.numbers.specs.Arithmetic.{Arithmetic, Weights}
 use Rattle.series.specs.Units.{within}
@@ -17,31 +18,43 @@ methodOf m =
     (cond (eqb m 3) chapman-maxwell (cond (eqb m 4) boughton (cond (eqb m 5) eckhardt tularam-ilahee))))
 
 -- A, B, C and d
-unfoldable pub weights : Method → (p q : ℕ) → Weights
-weights lyne-hollick p q = record { A = 2 * p; B = 10000 - p; C = 10000 - p; d = 20000 }
-weights chapman-1991 p q = record { A = 3 * p - 10000; B = 10000 - p; C = 10000 - p; d = 30000 - p }
-weights chapman-maxwell p q = record { A = p; B = 10000 - p; C = 0; d = 20000 - p }
-weights boughton p q = record { A = p; B = q; C = 0; d = 10000 + q }
-weights eckhardt p q = record { A = p * (10000 - q); B = (10000 - p) * q; C = 0; d = 100000000 - p * q }
-weights tularam-ilahee p q = record { A = p; B = 10000 - p; C = 0; d = 10000 }
+unfoldable pub methodWeights : Method → Setting → Weights
+methodWeights lyne-hollick s = record { A = 2 * s .p; B = 10000 - s .p; C = 10000 - s .p; d = 20000 }
+methodWeights chapman-1991 s = record { A = 3 * s .p - 10000; B = 10000 - s .p; C = 10000 - s .p; d = 30000 - s .p }
+methodWeights chapman-maxwell s = record { A = s .p; B = 10000 - s .p; C = 0; d = 20000 - s .p }
+methodWeights boughton s = record { A = s .p; B = s .q; C = 0; d = 10000 + s .q }
+methodWeights eckhardt s = record { A = s .p * (10000 - s .q); B = (10000 - s .p) * s .q; C = 0; d = 100000000 - s .p * s .q }
+methodWeights tularam-ilahee s = record { A = s .p; B = 10000 - s .p; C = 0; d = 10000 }
+
+unfoldable pub weights : Setting → Weights
+unfolding methodWeights
+weights s = methodWeights (methodOf (s .method)) s
 
 -- the range of p and q; q is 0 where the row has none
-unfoldable pub inRange : Method → (p q : ℕ) → Bool
-inRange lyne-hollick p q = within 1 9999 p && eqb q 0
-inRange chapman-1991 p q = within 3334 9999 p && eqb q 0
-inRange chapman-maxwell p q = within 1 9999 p && eqb q 0
-inRange boughton p q = within 1 9999 p && within 1 10000 q
-inRange eckhardt p q = within 1 9999 p && within 1 9999 q
-inRange tularam-ilahee p q = within 1 9999 p && eqb q 0
+unfoldable pub methodRange : Method → Setting → Bool
+methodRange lyne-hollick s = within 1 9999 (s .p) && eqb (s .q) 0
+methodRange chapman-1991 s = within 3334 9999 (s .p) && eqb (s .q) 0
+methodRange chapman-maxwell s = within 1 9999 (s .p) && eqb (s .q) 0
+methodRange boughton s = within 1 9999 (s .p) && within 1 10000 (s .q)
+methodRange eckhardt s = within 1 9999 (s .p) && within 1 9999 (s .q)
+methodRange tularam-ilahee s = within 1 9999 (s .p) && eqb (s .q) 0
 
--- the first f of pass 1, on a day of flow y: 500 × y, in method 5 near(9 × q × y / 100)
-unfoldable pub start : (S : Arithmetic) → Method → (q y : ℕ) → S .Number
-start S lyne-hollick q y = S .number (500 * y)
-start S chapman-1991 q y = S .number (500 * y)
-start S chapman-maxwell q y = S .number (500 * y)
-start S boughton q y = S .number (500 * y)
-start S eckhardt q y = S .quotient (S .number (9 * q * y)) 100
-start S tularam-ilahee q y = S .number (500 * y)
+unfoldable pub inRange : Setting → Bool
+unfolding methodRange
+inRange s = methodRange (methodOf (s .method)) s
+
+-- the usual first f of pass 1, on a day of flow y: 500 × y, in method 5 near(9 × q × y / 100)
+unfoldable pub methodStart : (S : Arithmetic) → Method → Setting → (y : ℕ) → S .Number
+methodStart S lyne-hollick s y = S .number (500 * y)
+methodStart S chapman-1991 s y = S .number (500 * y)
+methodStart S chapman-maxwell s y = S .number (500 * y)
+methodStart S boughton s y = S .number (500 * y)
+methodStart S eckhardt s y = S .quotient (S .number (9 * s .q * y)) 100
+methodStart S tularam-ilahee s y = S .number (500 * y)
+
+unfoldable pub start : (S : Arithmetic) → Setting → (y : ℕ) → S .Number
+unfolding methodStart
+start S s y = methodStart S (methodOf (s .method)) s y
 
 -- 11: method not 1 to 6
 unfoldable pub unknownMethod : Setting → Bool
@@ -50,7 +63,12 @@ unknownMethod s = not (within 1 6 (s .method))
 
 -- 12: p or q outside its range
 unfoldable pub outOfRange : Setting → Bool
-outOfRange s = not (inRange (methodOf (s .method)) (s .p) (s .q))
+outOfRange s = not (inRange s)
+
+-- neither 11 nor 12 holds
+pub record Usable (s : Setting) : Type 0 where
+  pub known : unknownMethod s ≡ false
+  pub in-range : outOfRange s ≡ false
 
 -- 13: passes not 1 to 3, or over 1 outside method 1
 unfoldable pub invalidPasses : Setting → ℕ → Bool

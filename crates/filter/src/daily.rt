@@ -5,15 +5,20 @@ use crate::Step;
 use crate::Yesterday;
 use crate::method;
 use crate::method::Coefficients;
+use crate::method::out_of_range;
+use crate::method::unknown_method;
 use series::Refusal;
+use series::Verdict;
+use series::refuse_if;
 ghost use mathlib.Core.Path.{_≡_};
 ghost use mathlib.Core.Bool.{false};
 ghost use Prim.Native.Nat.{_*_, _≤_};
 ghost use Rattle.series.specs.Units.{isInvalidDay};
-ghost use Rattle.filter.specs.Passes.{settingWeights};
-ghost use Rattle.filter.specs.Daily.{fresh, invalidYesterday, dayBase, stepRule, stepOf};
-ghost use Rattle.filter.specs.Ranges.{weightsOf, Usable, Moderate, SmallBase};
-ghost use Rattle.filter.specs.Runs.{dayState, dayMark};
+ghost use Rattle.series.specs.Causes.{Decides};
+ghost use Rattle.filter.specs.Methods.{weights, Usable};
+ghost use Rattle.filter.specs.Daily.{fresh, invalidYesterday, dayBase};
+ghost use Rattle.filter.specs.Call.{stepCauses, stepRule, outcomeOf};
+ghost use Rattle.filter.specs.Private.{weightsOf, Moderate, SmallBase, dayState, dayMark};
 
 // A day's base value, and the state after it.
 pub struct Advanced {
@@ -50,30 +55,12 @@ impl DailyFilter {
 
     // The day's base value by the setting's filter, from the state that the day before left.
     pub fn step(self, setting: Setting, day: u32) -> Step
-        ensures { λ r. ⌜ stepOf r ≡ stepRule setting self day ⌝ }
+        ensures { λ r. ⌜ outcomeOf r ≡ stepRule setting self day ⌝ }
     {
-        if method::unknown_method(setting) {
+        let verdict = check_step(self, setting, day);
+        if let Verdict::Refused(refusal) = verdict {
             return Step::Refused {
-                refusal: Refusal::UnknownMethod,
-                state: self,
-            };
-        }
-        if method::out_of_range(setting) {
-            return Step::Refused {
-                refusal: Refusal::ParameterOutOfRange,
-                state: self,
-            };
-        }
-        let yesterday = self.yesterday;
-        if invalid_yesterday(yesterday) {
-            return Step::Refused {
-                refusal: Refusal::InvalidState,
-                state: self,
-            };
-        }
-        if series::is_invalid_day(day) {
-            return Step::Refused {
-                refusal: Refusal::InvalidDay,
+                refusal,
                 state: self,
             };
         }
@@ -87,10 +74,22 @@ impl DailyFilter {
     }
 }
 
+// The causes of refusal of the step, in their order.
+fn check_step(state: DailyFilter, setting: Setting, day: u32) -> Verdict
+    ensures { λ r. ⌜ Decides (stepCauses setting state day) r ⌝ }
+{
+    let yesterday = state.yesterday;
+    let v = Verdict::Accepted;
+    let v = refuse_if(v, unknown_method(setting), Refusal::UnknownMethod);
+    let v = refuse_if(v, out_of_range(setting), Refusal::ParameterOutOfRange);
+    let v = refuse_if(v, invalid_yesterday(yesterday), Refusal::InvalidState);
+    refuse_if(v, series::is_invalid_day(day), Refusal::InvalidDay)
+}
+
 // The step over input that has passed its checks: what pass 1 does with each day.
-pub fn advance(state: DailyFilter, setting: Setting, w: Coefficients, day: u32) -> Advanced
+pub(crate) fn advance(state: DailyFilter, setting: Setting, w: Coefficients, day: u32) -> Advanced
     requires { ⌜ Usable setting ⌝ }
-    requires { ⌜ (weightsOf w ≡ settingWeights setting) × Moderate (weightsOf w) ⌝ }
+    requires { ⌜ (weightsOf w ≡ weights setting) × Moderate (weightsOf w) ⌝ }
     requires { ⌜ (invalidYesterday (state .yesterday) ≡ false) × (isInvalidDay day ≡ false) ⌝ }
     ensures { λ r. ⌜ (r .state ≡ dayState setting state day) × (r .base ≡ dayMark setting state day) ⌝ }
     ensures { λ r. ⌜ (invalidYesterday (r .state .yesterday) ≡ false) × SmallBase (r .base) ⌝ }
@@ -113,7 +112,7 @@ pub fn advance(state: DailyFilter, setting: Setting, w: Coefficients, day: u32) 
 // The base value of a present day.
 fn day_base(setting: Setting, w: Coefficients, yesterday: Yesterday, flow: u32) -> u64
     requires { ⌜ Usable setting ⌝ }
-    requires { ⌜ (weightsOf w ≡ settingWeights setting) × Moderate (weightsOf w) ⌝ }
+    requires { ⌜ (weightsOf w ≡ weights setting) × Moderate (weightsOf w) ⌝ }
     requires { ⌜ (invalidYesterday yesterday ≡ false) × (flow ≤ 10000000) ⌝ }
     ensures { λ r. ⌜ (r ≡ dayBase setting yesterday flow) × (r ≤ 1000 * flow) ⌝ }
 {

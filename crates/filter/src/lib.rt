@@ -4,11 +4,16 @@ mod daily;
 mod method;
 mod pass;
 
+use method::invalid_passes;
+use method::out_of_range;
+use method::unknown_method;
 use series::Refusal;
 use series::Verdict;
+use series::lengths_differ;
+use series::refuse_if;
 ghost use mathlib.Core.Path.{_≡_};
-ghost use Rattle.series.specs.Causes.{refusalOf, firstCause};
-ghost use Rattle.filter.specs.Filtering.{filterCauses, filterLeaves};
+ghost use Rattle.series.specs.Causes.{refusalOf, firstCause, Decides};
+ghost use Rattle.filter.specs.Call.{filterCauses, filterLeaves};
 
 // A filter's setting: the method's number and its two parameters in ten-thousandths, q 0 where the method has none.
 pub struct Setting {
@@ -46,19 +51,23 @@ pub fn filter(setting: Setting, passes: u32, days: &[u32], base: &mut [u64]) -> 
     ensures { λ r. ⌜ refusalOf r ≡ firstCause (filterCauses setting passes (now (days .entry)) (now (base .entry))) ⌝ }
     ensures { λ r. ⌜ now (base .exit) ≡ filterLeaves setting passes (now (days .entry)) (now (base .entry)) ⌝ }
 {
-    if method::unknown_method(setting) {
-        return Verdict::Refused(Refusal::UnknownMethod);
-    }
-    if method::out_of_range(setting) {
-        return Verdict::Refused(Refusal::ParameterOutOfRange);
-    }
-    if method::invalid_passes(setting, passes) {
-        return Verdict::Refused(Refusal::InvalidPasses);
-    }
-    let verdict = series::check_lists(days, base);
+    let verdict = check(setting, passes, days, base);
     if let Verdict::Refused(refusal) = verdict {
         return Verdict::Refused(refusal);
     }
     pass::run(setting, passes, days, base);
     Verdict::Accepted
+}
+
+// The causes of refusal of `filter`, in their order.
+fn check(setting: Setting, passes: u32, days: &[u32], base: &[u64]) -> Verdict
+    ensures { λ r. ⌜ Decides (filterCauses setting passes (now (days .entry)) (now (base .entry))) r ⌝ }
+{
+    let v = Verdict::Accepted;
+    let v = refuse_if(v, unknown_method(setting), Refusal::UnknownMethod);
+    let v = refuse_if(v, out_of_range(setting), Refusal::ParameterOutOfRange);
+    let v = refuse_if(v, invalid_passes(setting, passes), Refusal::InvalidPasses);
+    let v = refuse_if(v, series::too_long(days), Refusal::DayListTooLong);
+    let v = refuse_if(v, lengths_differ(days, base), Refusal::LengthsDiffer);
+    refuse_if(v, series::any_invalid_day(days), Refusal::InvalidDay)
 }

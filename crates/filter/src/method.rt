@@ -6,9 +6,9 @@ ghost use lib.Dec.{eqb};
 ghost use Prim.Native.Nat.{_≤_};
 ghost use Rattle.series.specs.Units.{within};
 ghost use Rattle.numbers.specs.Arithmetic.{rounded};
-ghost use Rattle.filter.specs.Methods.{unknownMethod, outOfRange, invalidPasses};
-ghost use Rattle.filter.specs.Passes.{step, settingWeights, firstDay};
-ghost use Rattle.filter.specs.Ranges.{weightsOf, Usable, Moderate, Small};
+ghost use Rattle.filter.specs.Methods.{weights, start, unknownMethod, outOfRange, invalidPasses, Usable};
+ghost use Rattle.filter.specs.Passes.{step};
+ghost use Rattle.filter.specs.Private.{weightsOf, Moderate, Small};
 
 // The A, B, C and d of a setting.
 pub struct Coefficients {
@@ -19,7 +19,7 @@ pub struct Coefficients {
 }
 
 // 11: the method is not 1 to 6.
-pub fn unknown_method(setting: Setting) -> bool
+pub(crate) fn unknown_method(setting: Setting) -> bool
     ensures { λ r. ⌜ r ≡ unknownMethod setting ⌝ }
 {
     !series::within(1, 6, setting.method)
@@ -46,12 +46,14 @@ fn two_parameters(high: u32, p: u32, q: u32) -> bool
 }
 
 // 12: p or q lies outside its range.
-pub fn out_of_range(setting: Setting) -> bool
+pub(crate) fn out_of_range(setting: Setting) -> bool
     ensures { λ r. ⌜ r ≡ outOfRange setting ⌝ }
 {
     let method = setting.method;
     match method {
+        1 => !one_parameter(1, setting.p, setting.q),
         2 => !one_parameter(3334, setting.p, setting.q),
+        3 => !one_parameter(1, setting.p, setting.q),
         4 => !two_parameters(10_000, setting.p, setting.q),
         5 => !two_parameters(9999, setting.p, setting.q),
         _ => !one_parameter(1, setting.p, setting.q),
@@ -59,7 +61,7 @@ pub fn out_of_range(setting: Setting) -> bool
 }
 
 // 13: the passes are not 1 to 3, or over 1 outside method 1.
-pub fn invalid_passes(setting: Setting, passes: u32) -> bool
+pub(crate) fn invalid_passes(setting: Setting, passes: u32) -> bool
     ensures { λ r. ⌜ r ≡ invalidPasses setting passes ⌝ }
 {
     if !series::within(1, 3, passes) {
@@ -72,9 +74,9 @@ pub fn invalid_passes(setting: Setting, passes: u32) -> bool
 }
 
 // A setting's row of the table.
-pub fn table_row(setting: Setting) -> Coefficients
+pub(crate) fn table_row(setting: Setting) -> Coefficients
     requires { ⌜ Usable setting ⌝ }
-    ensures { λ r. ⌜ weightsOf r ≡ settingWeights setting ⌝ }
+    ensures { λ r. ⌜ weightsOf r ≡ weights setting ⌝ }
     ensures { λ r. ⌜ Moderate (weightsOf r) ⌝ }
 {
     let p = setting.p as u64;
@@ -121,9 +123,9 @@ pub fn table_row(setting: Setting) -> Coefficients
 }
 
 // The base value of a segment's first day in pass 1.
-pub fn first_day(setting: Setting, flow: u64) -> u64
+pub(crate) fn first_day(setting: Setting, flow: u64) -> u64
     requires { ⌜ (Usable setting × (flow ≤ 10000000)) ⌝ }
-    ensures { λ r. ⌜ r ≡ firstDay rounded setting flow ⌝ }
+    ensures { λ r. ⌜ r ≡ start rounded setting flow ⌝ }
 {
     let method = setting.method;
     if method == 5 {
@@ -134,7 +136,7 @@ pub fn first_day(setting: Setting, flow: u64) -> u64
 }
 
 // f(t), from f = f(t-1), u = u(t) and v = u(t-1).
-pub fn smoothed(w: Coefficients, f: u64, u: u64, v: u64) -> u64
+pub(crate) fn smoothed(w: Coefficients, f: u64, u: u64, v: u64) -> u64
     requires { ⌜ Moderate (weightsOf w) ⌝ }
     requires { ⌜ (Small f × Small u × Small v) ⌝ }
     ensures { λ r. ⌜ r ≡ step rounded (weightsOf w) f u v ⌝ }

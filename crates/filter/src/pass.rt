@@ -9,11 +9,9 @@ ghost use mathlib.Core.Bool.{false};
 ghost use Prim.Native.Nat.{_≤_};
 ghost use lib.ListN.{length};
 ghost use Rattle.series.specs.Lists.{anyInvalidDay};
-ghost use Rattle.filter.specs.Methods.{invalidPasses};
-ghost use Rattle.filter.specs.Filtering.{filteredList};
-ghost use Rattle.filter.specs.Passes.{settingWeights};
-ghost use Rattle.filter.specs.Ranges.{weightsOf, Usable, Moderate, Small, SmallBase, SmallList, SmallPrevious};
-ghost use Rattle.filter.specs.Runs.{firstRun, output, passState, passMark, forwardRun, backwardRun};
+ghost use Rattle.filter.specs.Methods.{weights, invalidPasses, Usable};
+ghost use Rattle.filter.specs.Call.{filteredList};
+ghost use Rattle.filter.specs.Private.{weightsOf, Moderate, Small, SmallBase, SmallList, SmallPrevious, firstRun, output, passState, passMark, forwardRun, backwardRun};
 
 // The day that a pass looked at last: its u and its f, or nothing before a segment's first day.
 pub enum Previous {
@@ -28,7 +26,7 @@ pub struct Passed {
 }
 
 // The passes of an accepted call.
-pub fn run(setting: Setting, passes: u32, days: &[u32], base: &mut [u64])
+pub(crate) fn run(setting: Setting, passes: u32, days: &[u32], base: &mut [u64])
     requires { ⌜ Usable setting × (invalidPasses setting passes ≡ false) ⌝ }
     requires { ⌜ (anyInvalidDay (now days) ≡ false) × (length (now days) ≡ length (now base)) ⌝ }
     ensures { λ _. ⌜ now (base .exit) ≡ filteredList setting passes (now (days .entry)) ⌝ }
@@ -48,7 +46,7 @@ pub fn run(setting: Setting, passes: u32, days: &[u32], base: &mut [u64])
 // Pass 1: a daily step on each day, from the fresh state.
 fn first_pass(setting: Setting, w: Coefficients, days: &[u32], base: &mut [u64])
     requires { ⌜ Usable setting ⌝ }
-    requires { ⌜ (weightsOf w ≡ settingWeights setting) × Moderate (weightsOf w) ⌝ }
+    requires { ⌜ (weightsOf w ≡ weights setting) × Moderate (weightsOf w) ⌝ }
     requires { ⌜ (anyInvalidDay (now days) ≡ false) × (length (now days) ≡ length (now base)) ⌝ }
     ensures { λ _. ⌜ (now (base .exit) ≡ firstRun setting (now (days .entry))) × SmallList (now (base .exit)) ⌝ }
 {

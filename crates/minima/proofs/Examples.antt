@@ -10,16 +10,24 @@ use lib.IntN.{ℤ, pos}
 use lib.ListN.{getD, replicate}
 use Rattle.numbers.specs.Near.{near}
 use Rattle.numbers.specs.Fraction.{Fraction, whole, quotient, least}
+use Rattle.numbers.specs.Lists.{selected}
 use Rattle.numbers.specs.Arithmetic.{rounded, exact}
 use Rattle.series.specs.Units.{isInvalidDay, dayOf, within}
 use Rattle.series.specs.Segments.{parts, overSegments}
 use Rattle.series.specs.Causes.{firstCause}
 use Rattle.series.specs.Lists.{tooLong, lengthsDiffer, anyInvalidDay}
+use Rattle.minima.specs.declared.block.Blocks.{Blocks}
 use Rattle.minima.specs.declared.LineSetting.{LineSetting}
-use Rattle.minima.specs.Blocks.{origin, blockStart, blockCount, block, lowest, earliest, minimumFlow, minimumDay}
-use Rattle.minima.specs.TurningPoints.{turns, middleTurns, counting, those, turningPoints, neighbours}
-use Rattle.minima.specs.Line.{straight, between, valueOn, line, lineOver}
-use Rattle.minima.specs.Drawing.{outOfRange, hasTwo, anyOf, noLine, lineCauses}
+use Rattle.minima.specs.Blocks.{blockStart, blockCount, block, lowest, earliest, minimumFlow, minimumDay}
+use Rattle.minima.specs.TurningPoints.{turns, middleTurns, counting, turningPoints, neighbours}
+use Rattle.minima.specs.Line.{straight, between, lineOn, line, lineOver}
+use Rattle.minima.specs.Call.{outOfRange, hasTwo, anyOf, noLine, lineCauses}
+
+abbrev from : (o N g : ℕ) → Blocks
+from o N g = record { days = N; factor = g; origin = o }
+
+abbrev of : (N g : ℕ) → Blocks
+of = from 0
 
 -- document 01's river: N 1, g 9000, base 8000, 8333, 8667, 9000 at positions 1 to 4
 river : List ℕ
@@ -46,12 +54,12 @@ largest : List ℕ
 largest = replicate 5 10000000
 
 lines :
-    line rounded 1 9000 river
-    ∷ line rounded 1 9000 falling
-    ∷ line rounded 3 9000 tied
-    ∷ line rounded 2 9000 incomplete
-    ∷ line rounded 1 9000 largest
-    ∷ map (λ t. getD (line rounded 30 9000 long) t none) (39 ∷ 40 ∷ 70 ∷ 95 ∷ 96 ∷ [])
+    line rounded (of 1 9000) river
+    ∷ line rounded (of 1 9000) falling
+    ∷ line rounded (of 3 9000) tied
+    ∷ line rounded (of 2 9000) incomplete
+    ∷ line rounded (of 1 9000) largest
+    ∷ map (λ t. getD (line rounded (of 30 9000) long) t none) (39 ∷ 40 ∷ 70 ∷ 95 ∷ 96 ∷ [])
     ∷ []
     ≡ (none ∷ some 8000 ∷ some 8333 ∷ some 8667 ∷ some 9000 ∷ none ∷ [])
     ∷ (none ∷ some 20000 ∷ some 15000 ∷ some 8000 ∷ some 5000 ∷ none ∷ [])
@@ -60,14 +68,21 @@ lines :
     ∷ (none ∷ some 10000000000 ∷ some 10000000000 ∷ some 10000000000 ∷ none ∷ [])
     ∷ (none ∷ some 30000 ∷ some 35455 ∷ some 40000 ∷ none ∷ [])
     ∷ []
-unfolding river falling tied incomplete largest long near origin blockStart blockCount block lowest earliest minimumFlow minimumDay turns middleTurns counting those turningPoints neighbours straight between valueOn line
+unfolding river falling tied incomplete largest long near blockStart blockCount block lowest earliest minimumFlow minimumDay turns middleTurns counting selected turningPoints neighbours straight between lineOn line
 lines = refl
 
--- the turning points without and with one day more, which completes the last block, and those of long blocks
+-- the turning points without and with one day more, which completes the last block, and those of long blocks; and with N 2
+-- from the second day on (blocks 20 8, 20 20, 20 20, 9 20, 20 10 and 20 30), from the last day on, and from behind the segment
 points :
-    turningPoints 2 9000 incomplete ∷ turningPoints 2 9000 (incomplete ++ 30 ∷ []) ∷ turningPoints 30 9000 long ∷ []
-    ≡ (2 ∷ 7 ∷ []) ∷ (2 ∷ 7 ∷ 10 ∷ []) ∷ (40 ∷ 95 ∷ []) ∷ []
-unfolding incomplete long origin blockStart blockCount block lowest earliest minimumFlow minimumDay turns middleTurns counting those turningPoints
+    turningPoints (of 2 9000) incomplete
+    ∷ turningPoints (of 2 9000) (incomplete ++ 30 ∷ [])
+    ∷ turningPoints (of 30 9000) long
+    ∷ turningPoints (from 1 2 9000) incomplete
+    ∷ turningPoints (from 12 2 9000) incomplete
+    ∷ turningPoints (from 20 2 9000) incomplete
+    ∷ []
+    ≡ (2 ∷ 7 ∷ []) ∷ (2 ∷ 7 ∷ 10 ∷ []) ∷ (40 ∷ 95 ∷ []) ∷ (7 ∷ []) ∷ [] ∷ [] ∷ []
+unfolding incomplete long blockStart blockCount block lowest earliest minimumFlow minimumDay turns middleTurns counting selected turningPoints
 points = refl
 
 -- document 01's river in fractions: 8000, 25000/3, 26000/3, 9000
@@ -76,9 +91,9 @@ fraction none = none
 fraction (some f) = some (f .upper, f .lower)
 
 exact-line :
-    map fraction (line exact 1 9000 river)
+    map fraction (line exact (of 1 9000) river)
     ≡ none ∷ some (pos 8000, 1) ∷ some (pos 25000, 3) ∷ some (pos 26000, 3) ∷ some (pos 9000, 1) ∷ none ∷ []
-unfolding fraction river whole quotient least origin blockStart blockCount block lowest earliest minimumFlow minimumDay turns middleTurns counting those turningPoints neighbours straight between valueOn line
+unfolding fraction river whole quotient least blockStart blockCount block lowest earliest minimumFlow minimumDay turns middleTurns counting selected turningPoints neighbours straight between lineOn line
 exact-line = refl
 
 -- document 01: g 9000, middle 10 beside 9 doesn't turn, beside 10 it does
@@ -90,19 +105,19 @@ turning = refl
 
 -- two segments, the second behind a gap of two days: each has its own line
 two-segments :
-    lineOver rounded 1 9000 (map some river ++ none ∷ none ∷ some 7 ∷ some 5 ∷ some 9 ∷ some 6 ∷ some 8 ∷ [])
+    lineOver rounded (of 1 9000) (map some river ++ none ∷ none ∷ some 7 ∷ some 5 ∷ some 9 ∷ some 6 ∷ some 8 ∷ [])
     ≡ none ∷ some 8000 ∷ some 8333 ∷ some 8667 ∷ some 9000 ∷ none ∷ none ∷ none ∷ none ∷ some 5000 ∷ some 5500 ∷ some 6000 ∷ none ∷ []
-unfolding river near origin blockStart blockCount block lowest earliest minimumFlow minimumDay turns middleTurns counting those turningPoints neighbours straight between valueOn line lineOver overSegments
+unfolding river near blockStart blockCount block lowest earliest minimumFlow minimumDay turns middleTurns counting selected turningPoints neighbours straight between lineOn line lineOver overSegments
 two-segments = refl
 
 -- 17: one turning point; two segments with one each; and a river with a line
 no-lines :
-    noLine 1 9000 (some 10 ∷ some 8 ∷ some 10 ∷ [])
-    ∷ noLine 1 9000 (some 10 ∷ some 8 ∷ some 10 ∷ none ∷ some 10 ∷ some 8 ∷ some 10 ∷ [])
-    ∷ noLine 1 9000 (none ∷ map some river)
+    noLine (of 1 9000) (some 10 ∷ some 8 ∷ some 10 ∷ [])
+    ∷ noLine (of 1 9000) (some 10 ∷ some 8 ∷ some 10 ∷ none ∷ some 10 ∷ some 8 ∷ some 10 ∷ [])
+    ∷ noLine (of 1 9000) (none ∷ map some river)
     ∷ []
     ≡ true ∷ true ∷ false ∷ []
-unfolding river origin blockStart blockCount block lowest earliest minimumFlow minimumDay turns middleTurns counting those turningPoints hasTwo anyOf noLine parts
+unfolding river blockStart blockCount block lowest earliest minimumFlow minimumDay turns middleTurns counting selected turningPoints hasTwo anyOf noLine parts
 no-lines = refl
 
 abbrev setting : (N g : ℕ) → LineSetting
@@ -122,5 +137,5 @@ refusals :
     ∷ firstCause (lineCauses (setting 1 9000) river (replicate 6 0))
     ∷ []
     ≡ some 16 ∷ some 16 ∷ some 16 ∷ some 16 ∷ some 17 ∷ some 14 ∷ some 10 ∷ some 17 ∷ none ∷ []
-unfolding river lineCauses outOfRange within tooLong lengthsDiffer anyInvalidDay isInvalidDay dayOf origin blockStart blockCount block lowest earliest minimumFlow minimumDay turns middleTurns counting those turningPoints hasTwo anyOf noLine parts
+unfolding river lineCauses outOfRange within tooLong lengthsDiffer anyInvalidDay isInvalidDay dayOf blockStart blockCount block lowest earliest minimumFlow minimumDay turns middleTurns counting selected turningPoints hasTwo anyOf noLine parts
 refusals = refl

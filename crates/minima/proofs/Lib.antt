@@ -1,12 +1,11 @@
-pub mod Sentences
+mod Sentences
 mod Minima
-pub mod Points
+mod Points
 mod Pieces
-mod Drawn
-mod Gapped
-pub mod Neighbours
+mod SegmentLine
+mod AllSegments
+mod Neighbours
 mod Values
-mod Parted
 pub mod Distance
-mod Calls
+pub mod Acceptance
 mod Examples

@@ -1,22 +1,39 @@
 -- The list of turning points holds each of them once, in order, and its neighbours are the neighbouring ones.
 -- Assumes nothing.
-use Prim.Native.Nat.{ℕ, zero, suc, _+_, _-_, _/_, _≤_, _<_}
-use mathlib.Core.Path.{_≡_, refl, _∙_, ap, ap₂, subst}
-use mathlib.Core.Bool.{Bool, true, false, cond}
-use mathlib.Core.List.{List, [], _∷_, map, List·Memᴰ, List·Memᴰ·head, List·Memᴰ·tail, List·Memᴰ·cases-cons, List·Memᴰ·not-nil, List·Memᴰ·eq-of-singleton, Memᴰ·cast}
-use mathlib.Core.Logic.{⊎-elim, by-cases}
-use native.Mathlib.Nat.{div-zero, pos-of-ne-zero}
+use Prim.Native.Nat.{ℕ, zero, suc, _+_, _-_, _≤_, _<_}
+use mathlib.Core.Path.{_≡_, refl, sym, ap, ap₂, subst}
+use mathlib.Core.List.{List, [], _∷_, List·Memᴰ, List·Memᴰ·head, List·Memᴰ·tail, List·Memᴰ·cases-cons, List·Memᴰ·not-nil, List·Memᴰ·eq-of-singleton, Memᴰ·cast, Memᴰ·map, Memᴰ·of-map}
+use mathlib.Core.Logic.{⊎-elim}
 use native.Mathlib.Decide.{ℕ-discrete}
 use native.Mathlib.Omega.{arith}
 use lib.ListN.{length}
-use Rattle.minima.specs.Blocks.{origin, blockCount, minimumDay}
-use Rattle.minima.specs.TurningPoints.{middleTurns, TurningPoint, Neighbouring, counting, those, turningPoints, neighbours}
-use Rattle.minima.proofs.Points.{Rising, pointsOf, all-points, points-rise}
+use Rattle.numbers.proofs.Selection.{selected-from, selected-still}
+use Rattle.minima.specs.declared.block.Blocks.{Blocks}
+use Rattle.minima.specs.Blocks.{blockCount, minimumDay}
+use Rattle.minima.specs.TurningPoints.{middleTurns, TurningPoint, Neighbouring, counting, turningPoints, neighbours}
+use Rattle.minima.proofs.Points.{Rising, all-points, points-rise}
+
+-- the numbers from k to before k + n
+counted-from : (k n : ℕ) {q : ℕ} → List·Memᴰ q (counting k n) → (k ≤ q) × (q < k + n)
+unfolding counting
+counted-from k zero m = absurd (List·Memᴰ·not-nil m)
+counted-from k (suc n) m =
+    ⊎-elim (λ e. (omega (arith, e), omega (arith, e))) (λ r. let h = counted-from (suc k) n r in (omega (arith, h .0), omega (arith, h .1))) (List·Memᴰ·cases-cons m)
+
+in-counting : (k n q : ℕ) → k ≤ q → q < k + n → List·Memᴰ q (counting k n)
+unfolding counting
+in-counting k zero q h l = absurd (omega arith)
+in-counting k (suc n) q h l = elim (ℕ-discrete q k) [ yes e ↦ List·Memᴰ·head e | no e ↦ List·Memᴰ·tail (in-counting (suc k) n q (omega arith) (omega arith)) ]
 
 -- members of a rising list
 pub members-rise : (a : ℕ) (ps : List ℕ) {d : ℕ} → Rising a ps → List·Memᴰ d ps → a < d
 members-rise a [] r m = absurd (List·Memᴰ·not-nil m)
 members-rise a (b ∷ bs) {d} r m = ⊎-elim (λ e. omega (arith, r .0, e)) (λ n. omega (arith, r .0, members-rise b bs (r .1) n)) (List·Memᴰ·cases-cons m)
+
+-- a rising list from its first element on
+abbrev pub Rises : List ℕ → Type 0
+Rises [] = Unit {0}
+Rises (a ∷ ps) = Rising a ps
 
 -- i and j stand in a list, with nothing between them
 pub record Adjacent (ps : List ℕ) (i j : ℕ) : Type 0 where
@@ -26,20 +43,22 @@ pub record Adjacent (ps : List ℕ) (i j : ℕ) : Type 0 where
   pub none-between : (d : ℕ) → List·Memᴰ d ps → i < d → d < j → ⊥
 
 -- of a rising list, the neighbours are what is adjacent
-pub adjacent-pair : (a : ℕ) (ps : List ℕ) (i j : ℕ) → Rising a ps → Adjacent (a ∷ ps) i j → List·Memᴰ (i, j) (neighbours (a ∷ ps))
+adjacent-neighbours : (ps : List ℕ) (i j : ℕ) → Rises ps → Adjacent ps i j → List·Memᴰ (i, j) (neighbours ps)
 unfolding neighbours
-adjacent-pair a [] i j r p =
+adjacent-neighbours [] i j r p = absurd (List·Memᴰ·not-nil (p .left))
+adjacent-neighbours (a ∷ []) i j r p =
     absurd (⊎-elim (λ e. ⊎-elim (λ f. omega (arith, p .in-order, e, f)) List·Memᴰ·not-nil (List·Memᴰ·cases-cons (p .right))) List·Memᴰ·not-nil (List·Memᴰ·cases-cons (p .left)))
-adjacent-pair a (b ∷ bs) i j r p =
+adjacent-neighbours (a ∷ b ∷ bs) i j r p =
     ⊎-elim
     (λ e. ⊎-elim (λ f. absurd (omega (arith, p .in-order, e, f))) (λ m. ⊎-elim (λ f. List·Memᴰ·head (ap₂ (λ x y. (x, y)) e f)) (λ n. absurd (p .none-between b (List·Memᴰ·tail (List·Memᴰ·head refl)) (omega (arith, r .0, e)) (members-rise b bs (r .1) n))) (List·Memᴰ·cases-cons m)) (List·Memᴰ·cases-cons (p .right)))
-    (λ m. ⊎-elim (λ f. absurd (omega (arith, p .in-order, f, members-rise a (b ∷ bs) r m))) (λ n. List·Memᴰ·tail (adjacent-pair b bs i j (r .1) (record { left = m; right = n; in-order = p .in-order; none-between = λ d k. p .none-between d (List·Memᴰ·tail k) }))) (List·Memᴰ·cases-cons (p .right)))
+    (λ m. ⊎-elim (λ f. absurd (omega (arith, p .in-order, f, members-rise a (b ∷ bs) r m))) (λ n. List·Memᴰ·tail (adjacent-neighbours (b ∷ bs) i j (r .1) (record { left = m; right = n; in-order = p .in-order; none-between = λ d k. p .none-between d (List·Memᴰ·tail k) }))) (List·Memᴰ·cases-cons (p .right)))
     (List·Memᴰ·cases-cons (p .left))
 
-pub pair-adjacent : (a : ℕ) (ps : List ℕ) (i j : ℕ) → Rising a ps → List·Memᴰ (i, j) (neighbours (a ∷ ps)) → Adjacent (a ∷ ps) i j
+pub neighbours-adjacent : (ps : List ℕ) (i j : ℕ) → Rises ps → List·Memᴰ (i, j) (neighbours ps) → Adjacent ps i j
 unfolding neighbours
-pair-adjacent a [] i j r m = absurd (List·Memᴰ·not-nil m)
-pair-adjacent a (b ∷ bs) i j r m = ⊎-elim first (λ n. later (pair-adjacent b bs i j (r .1) n)) (List·Memᴰ·cases-cons m)
+neighbours-adjacent [] i j r m = absurd (List·Memᴰ·not-nil m)
+neighbours-adjacent (a ∷ []) i j r m = absurd (List·Memᴰ·not-nil m)
+neighbours-adjacent (a ∷ b ∷ bs) i j r m = ⊎-elim first (λ n. later (neighbours-adjacent (b ∷ bs) i j (r .1) n)) (List·Memᴰ·cases-cons m)
   where
     first : _≡_ {A = ℕ × ℕ} (i, j) (a, b) → Adjacent (a ∷ b ∷ bs) i j
     first e =
@@ -61,102 +80,45 @@ pair-adjacent a (b ∷ bs) i j r m = ⊎-elim first (λ n. later (pair-adjacent 
           none-between = λ d n h k. ⊎-elim (λ e. omega (arith, members-rise a (b ∷ bs) r (q .left))) (λ o. q .none-between d o h k) (List·Memᴰ·cases-cons n);
         }
 
-pair-left : (ps : List ℕ) {i j : ℕ} → List·Memᴰ (i, j) (neighbours ps) → List·Memᴰ i ps
-unfolding neighbours
-pair-left [] m = absurd (List·Memᴰ·not-nil m)
-pair-left (a ∷ []) m = absurd (List·Memᴰ·not-nil m)
-pair-left (a ∷ b ∷ bs) m = ⊎-elim (λ e. List·Memᴰ·head (ap (λ q. q .0) e)) (λ n. List·Memᴰ·tail (pair-left (b ∷ bs) n)) (List·Memᴰ·cases-cons m)
-
--- a rising list from its first element on
-abbrev pub Rises : List ℕ → Type 0
-Rises [] = Unit {0}
-Rises (a ∷ ps) = Rising a ps
-
-pub adjacent-neighbours : (ps : List ℕ) (i j : ℕ) → Rises ps → Adjacent ps i j → List·Memᴰ (i, j) (neighbours ps)
-adjacent-neighbours [] i j r p = absurd (List·Memᴰ·not-nil (p .left))
-adjacent-neighbours (a ∷ ps) i j r p = adjacent-pair a ps i j r p
-
-pub neighbours-adjacent : (ps : List ℕ) (i j : ℕ) → Rises ps → List·Memᴰ (i, j) (neighbours ps) → Adjacent ps i j
-unfolding neighbours
-neighbours-adjacent [] i j r m = absurd (List·Memᴰ·not-nil m)
-neighbours-adjacent (a ∷ ps) i j r m = pair-adjacent a ps i j r m
-
-module _ (N g : ℕ) (flows : List ℕ) where
-  abbrev triples : ℕ
-  triples = blockCount N flows - 2
-
-  -- a member of the list is a turning point
-  member-turns : (k n : ℕ) {d : ℕ} → n ≤ triples - k → List·Memᴰ d (pointsOf N g flows k n) → TurningPoint N g flows d
-  unfolding counting those
-  member-turns k zero h m = absurd (List·Memᴰ·not-nil m)
-  member-turns k (suc n) {d} h m = by-test (middleTurns N g flows k) refl m (member-turns (suc k) n (omega arith))
-    where
-      by-test : (t : Bool) → middleTurns N g flows k ≡ t → List·Memᴰ d (map (λ k. minimumDay N flows (suc k)) (cond t (k ∷ those (middleTurns N g flows) (counting (suc k) n)) (those (middleTurns N g flows) (counting (suc k) n))))
-          → (List·Memᴰ d (pointsOf N g flows (suc k) n) → TurningPoint N g flows d) → TurningPoint N g flows d
-      by-test true e m rest = ⊎-elim (λ f. record { first = k; three = omega arith; turning = e; middle = f }) rest (List·Memᴰ·cases-cons m)
-      by-test false e m rest = rest m
-
-  -- a turning point is a member of the list
-  turn-member : (k n q : ℕ) → k ≤ q → q < k + n → middleTurns N g flows q ≡ true → List·Memᴰ (minimumDay N flows (suc q)) (pointsOf N g flows k n)
-  unfolding counting those
-  turn-member k zero q h l e = absurd (omega arith)
-  turn-member k (suc n) q h l e = by-cases (ℕ-discrete q k) here (λ d. there (middleTurns N g flows k) (turn-member (suc k) n q (omega arith) (omega arith) e))
-    where
-      here : q ≡ k → List·Memᴰ (minimumDay N flows (suc q)) (pointsOf N g flows k (suc n))
-      here d = let t : middleTurns N g flows k ≡ true = subst (λ x. middleTurns N g flows x ≡ true) d e in rw t (List·Memᴰ·head (ap (λ x. minimumDay N flows (suc x)) d))
-
-      there : (t : Bool) → List·Memᴰ (minimumDay N flows (suc q)) (pointsOf N g flows (suc k) n)
-          → List·Memᴰ (minimumDay N flows (suc q)) (map (λ k. minimumDay N flows (suc k)) (cond t (k ∷ those (middleTurns N g flows) (counting (suc k) n)) (those (middleTurns N g flows) (counting (suc k) n))))
-      there true m = List·Memᴰ·tail m
-      there false m = m
-
-  pub listed-turns : {d : ℕ} → List·Memᴰ d (turningPoints N g flows) → TurningPoint N g flows d
+module _ (B : Blocks) (flows : List ℕ) where
+  -- a turning point is a member of the list, and a member a turning point
+  pub listed-turns : {d : ℕ} → List·Memᴰ d (turningPoints B flows) → TurningPoint B flows d
   unfolding turningPoints
-  listed-turns m = member-turns 0 triples (omega arith) m
+  listed-turns m =
+      let r = Memᴰ·of-map (λ k. minimumDay B flows (suc k)) _ m in
+      let s = selected-from (middleTurns B flows) _ (r .1) in
+      record { first = r .0; three = omega (arith, counted-from 0 (blockCount B flows - 2) (s .0) .1); turning = s .1; middle = sym (r .2) }
 
-  pub turns-listed : {d : ℕ} → TurningPoint N g flows d → List·Memᴰ d (turningPoints N g flows)
+  pub turns-listed : {d : ℕ} → TurningPoint B flows d → List·Memᴰ d (turningPoints B flows)
   unfolding turningPoints
-  turns-listed {d} p = Memᴰ·cast (p .middle) (turn-member 0 triples (p .first) (omega arith) (omega (arith, p .three)) (p .turning))
+  turns-listed p =
+      Memᴰ·cast (p .middle)
+      (Memᴰ·map (λ k. minimumDay B flows (suc k)) (selected-still (middleTurns B flows) (p .turning) (in-counting 0 (blockCount B flows - 2) (p .first) (omega arith) (omega (arith, p .three)))))
 
-  -- without blocks there is no turning point
-  pub blocks-positive : {d : ℕ} → TurningPoint N g flows d → 0 < N
-  unfolding blockCount
-  blocks-positive p = by-zero (ℕ-discrete N 0)
+  pub points-in-order : Rises (turningPoints B flows)
+  points-in-order = from-first (turningPoints B flows) (subst (Rising (minimumDay B flows 0)) (all-points B flows) (points-rise B flows 0))
     where
-      by-zero : Dec (N ≡ 0) → 0 < N
-      by-zero (no n) = pos-of-ne-zero n
-      by-zero (yes e) = absurd (omega (arith, p .three, ap (λ n. (length flows - origin) / n) e ∙ div-zero (length flows - origin)))
-
-  pub points-in-order : 0 < N → Rises (turningPoints N g flows)
-  points-in-order h = from-first (turningPoints N g flows) (subst (Rising (minimumDay N flows 0)) (all-points N g flows) (points-rise N g flows h 0))
-    where
-      from-first : (ps : List ℕ) → Rising (minimumDay N flows 0) ps → Rises ps
+      from-first : (ps : List ℕ) → Rising (minimumDay B flows 0) ps → Rises ps
       from-first [] r = tt
       from-first (a ∷ ps) r = r .1
 
   -- the neighbours of the list are the neighbouring turning points
-  pub neighbouring-listed : {i j : ℕ} → Neighbouring N g flows i j → List·Memᴰ (i, j) (neighbours (turningPoints N g flows))
+  pub neighbouring-listed : {i j : ℕ} → Neighbouring B flows i j → List·Memᴰ (i, j) (neighbours (turningPoints B flows))
   neighbouring-listed {i} {j} n =
-      adjacent-neighbours (turningPoints N g flows) i j (points-in-order (blocks-positive (n .left)))
+      adjacent-neighbours (turningPoints B flows) i j points-in-order
       (record { left = turns-listed (n .left); right = turns-listed (n .right); in-order = n .in-order; none-between = λ d m. n .none-between d (listed-turns m) })
 
-  pub listed-neighbouring : {i j : ℕ} → List·Memᴰ (i, j) (neighbours (turningPoints N g flows)) → Neighbouring N g flows i j
+  pub listed-neighbouring : {i j : ℕ} → List·Memᴰ (i, j) (neighbours (turningPoints B flows)) → Neighbouring B flows i j
   listed-neighbouring {i} {j} m =
-      let h = blocks-positive (listed-turns (pair-left (turningPoints N g flows) m)) in
-      let a = neighbours-adjacent (turningPoints N g flows) i j (points-in-order h) m in
+      let a = neighbours-adjacent (turningPoints B flows) i j points-in-order m in
       record { left = listed-turns (a .left); right = listed-turns (a .right); in-order = a .in-order; none-between = λ d p. a .none-between d (turns-listed p) }
 
 -- two elements of a list, and their number
-pub record Pair (ps : List ℕ) : Type 0 where
-  pub i : ℕ
-  pub j : ℕ
-  pub there : List·Memᴰ (i, j) (neighbours ps)
-
-pub two-neighbours : (ps : List ℕ) → 2 ≤ length ps → Pair ps
+pub two-neighbours : (ps : List ℕ) → 2 ≤ length ps → (i : ℕ) × (j : ℕ) × List·Memᴰ (i, j) (neighbours ps)
 unfolding neighbours
 two-neighbours [] h = absurd (omega arith)
 two-neighbours (a ∷ []) h = absurd (omega arith)
-two-neighbours (a ∷ b ∷ bs) h = record { i = a; j = b; there = List·Memᴰ·head refl }
+two-neighbours (a ∷ b ∷ bs) h = (a, b, List·Memᴰ·head refl)
 
 pub two-members : (ps : List ℕ) {i j : ℕ} → List·Memᴰ i ps → List·Memᴰ j ps → i < j → 2 ≤ length ps
 two-members [] m n h = absurd (List·Memᴰ·not-nil m)

@@ -9,34 +9,38 @@
 --   17 holds exactly when no segment has two turning points (`no-line-exactly`);
 --   the rounded line has a value on the same days as the exact one, at most the flow and within one half of it (`distance`).
 -- Assumes nothing.
-use Prim.Native.Nat.{ℕ, suc, _+_, _*_, _-_, _≤_, _<_}
-use mathlib.Core.Path.{_≡_, refl, sym, _∙_, ap, subst}
+use Prim.Native.Nat.{ℕ, suc, _+_, _*_, _≤_, _<_}
+use mathlib.Core.Path.{_≡_, refl, sym, _∙_, ap}
 use mathlib.Core.Bool.{Bool, true, false, true≢false, not}
 use mathlib.Core.List.{List, [], _∷_, List·Memᴰ}
 use mathlib.Core.Option.{Option, none, some}
 use mathlib.Core.Logic.{_↔_}
-use native.Mathlib.Nat.{lt-of-not-le, le-div-iff-mul-le}
+use native.Mathlib.Nat.{lt-of-not-le}
 use native.Mathlib.Decide.{decLe}
 use native.Mathlib.Omega.{arith}
 use lib.ListN.{length, getD, take, drop, List·getD-eq-default}
 use borrow.Author.Tests.{ltb-true, lt-ltb, leb-true, le-leb, not-true}
 use Rattle.numbers.specs.Fraction.{half}
+use Rattle.numbers.specs.Lists.{Each}
 use Rattle.numbers.specs.Arithmetic.{Arithmetic, rounded, exact}
+use Rattle.numbers.proofs.Quantities.{Keeps, rounded-keeps, exact-keeps}
 use Rattle.series.specs.Segments.{Segment}
-use Rattle.series.specs.Agreement.{Each, Agree}
+use Rattle.series.specs.Agreement.{Agree}
 use Rattle.series.proofs.Alone.{alone, missing-day}
-use Rattle.minima.specs.Blocks.{flowOn, origin, blockStart, blockCount, minimumFlow, minimumDay, Minimum}
+use Rattle.series.proofs.SegmentParts.{allParts, segment-part, part-segment}
+use Rattle.series.proofs.Views.{both-of}
+use Rattle.minima.specs.declared.block.Blocks.{Blocks}
+use Rattle.minima.specs.declared.LineSetting.{LineSetting}
+use Rattle.minima.specs.Blocks.{flowOn, blockStart, blockCount, minimumFlow, minimumDay, Minimum}
 use Rattle.minima.specs.TurningPoints.{turns, TurningPoint, Neighbouring, TwoTurningPoints, turningPoints, neighbours}
 use Rattle.minima.specs.Line.{between, line, lineOver}
-use Rattle.minima.specs.Drawing.{hasTwo, anyOf, noLine}
-use Rattle.minima.proofs.Minima.{next-start, whole-block, minimum-flow, block-minimum}
-use Rattle.minima.proofs.Drawn.{line-length, line-at}
-use Rattle.minima.proofs.Gapped.{no-points}
-use Rattle.minima.proofs.Neighbours.{Rises, blocks-positive, points-in-order, listed-turns, turns-listed, neighbouring-listed, listed-neighbouring, two-neighbours, two-members}
-use Rattle.minima.proofs.Values.{Keeps, rounded-keeps, exact-keeps, by-any, by-none}
-use Rattle.minima.proofs.Parted.{all, segment-part, part-segment, any-passes, one-passes}
+use Rattle.minima.specs.Call.{blocksOf, hasTwo, anyOf, noLine}
+use Rattle.minima.proofs.Minima.{whole-block, block-counted, minimum-flow, block-minimum, minimum-inside}
+use Rattle.minima.proofs.SegmentLine.{line-length, line-at}
+use Rattle.minima.proofs.AllSegments.{no-points, none-passes, one-passes}
+use Rattle.minima.proofs.Neighbours.{Rises, points-in-order, listed-turns, turns-listed, neighbouring-listed, listed-neighbouring, two-neighbours, two-members}
+use Rattle.minima.proofs.Values.{by-any, by-none}
 use Rattle.minima.proofs.Distance.{line-distance}
-use Rattle.minima.proofs.Calls.{both}
 
 -- the two readings of the rules
 pub data Reading : Arithmetic → Type 1 where
@@ -48,95 +52,97 @@ keeps rounded-line = rounded-keeps
 keeps exact-line = exact-keeps
 
 -- blocks
-pub first-block : (N : ℕ) → blockStart N 0 ≡ 0
-unfolding blockStart origin
-first-block N = omega arith
+pub first-block : (s : LineSetting) → blockStart (blocksOf s) 0 ≡ 0
+unfolding blockStart
+first-block s = omega arith
 
-pub next-block : (N k : ℕ) → blockStart N (suc k) ≡ blockStart N k + N
-next-block = next-start
+module _ (B : Blocks) (flows : List ℕ) (k : ℕ) where
+  pub next-block : blockStart B (suc k) ≡ blockStart B k + B .days
+  unfolding blockStart
+  next-block = omega arith
 
-module _ (N : ℕ) (positive : 0 < N) (flows : List ℕ) (k : ℕ) where
-  pub complete-blocks : (k < blockCount N flows) ↔ (blockStart N k + N ≤ length flows)
-  unfolding blockStart blockCount
-  complete-blocks = ((λ h. omega (arith, next-start N k, whole-block N flows k positive h)), (λ h. le-div-iff-mul-le {k = N} {x = suc k} {y = length flows - origin} positive .1 (omega arith)))
+  pub complete-blocks : 0 < B .days → (k < blockCount B flows) ↔ (blockStart B k + B .days ≤ length flows)
+  complete-blocks positive = (whole-block B flows k, block-counted B flows k positive)
 
-  pub minimum-of-block : k < blockCount N flows → Minimum flows (blockStart N k) (blockStart N k + N) (minimumDay N flows k)
-  minimum-of-block h = subst (λ b. Minimum flows (blockStart N k) b (minimumDay N flows k)) (next-start N k) (block-minimum N flows k positive (whole-block N flows k positive h))
+  pub minimum-of-block : k < blockCount B flows → Minimum flows (blockStart B k) (blockStart B k + B .days) (minimumDay B flows k)
+  minimum-of-block = block-minimum B flows k
 
-  pub flow-of-minimum : k < blockCount N flows → flowOn flows (minimumDay N flows k) ≡ minimumFlow N flows k
-  flow-of-minimum h = minimum-flow N flows k positive (whole-block N flows k positive h)
+  pub flow-of-minimum : k < blockCount B flows → flowOn flows (minimumDay B flows k) ≡ minimumFlow B flows k
+  flow-of-minimum = minimum-flow B flows k
 
 -- turning points
 pub turning-test : (g left middle right : ℕ) → (turns g left middle right ≡ true) ↔ ((g * middle < 10000 * left) × (g * middle < 10000 * right))
 unfolding turns
 turning-test g left middle right = (
-  (λ e. let h = both _ _ e in (ltb-true (g * middle) (10000 * left) (h .0), ltb-true (g * middle) (10000 * right) (h .1))),
+  (λ e. let h = both-of _ _ e in (ltb-true (g * middle) (10000 * left) (h .0), ltb-true (g * middle) (10000 * right) (h .1))),
   (λ h. simp (lt-ltb (g * middle) (10000 * left) (h .0), lt-ltb (g * middle) (10000 * right) (h .1))),
 )
 
-module _ (N g : ℕ) (flows : List ℕ) where
-  pub turning-points-listed : (d : ℕ) → TurningPoint N g flows d ↔ List·Memᴰ d (turningPoints N g flows)
-  turning-points-listed d = (turns-listed N g flows, listed-turns N g flows)
+module _ (B : Blocks) (flows : List ℕ) where
+  abbrev points : List ℕ
+  points = turningPoints B flows
 
-  pub turning-points-rise : 0 < N → Rises (turningPoints N g flows)
-  turning-points-rise = points-in-order N g flows
+  pub turning-points-listed : (d : ℕ) → TurningPoint B flows d ↔ List·Memᴰ d points
+  turning-points-listed d = (turns-listed B flows, listed-turns B flows)
 
-  inside : (d : ℕ) → TurningPoint N g flows d → d < length flows
-  inside d p =
-      let h = blocks-positive N g flows p in
-      let w = whole-block N flows (suc (p .first)) h (omega (arith, p .three)) in
-      omega (arith, p .middle, block-minimum N flows (suc (p .first)) h w .to)
+  pub turning-points-rise : Rises points
+  turning-points-rise = points-in-order B flows
+
+  inside : {d : ℕ} → TurningPoint B flows d → d < length flows
+  inside p = omega (arith, p .middle, minimum-inside B flows (suc (p .first)) (omega (arith, p .three)))
 
   -- the line of a segment
   module _ (S : Arithmetic) where
-    pub value-between : Reading S → (i j t : ℕ) → Neighbouring N g flows i j → i ≤ t → t ≤ j → getD (line S N g flows) t none ≡ some (between S flows i j t)
+    pub value-between : Reading S → (i j t : ℕ) → Neighbouring B flows i j → i ≤ t → t ≤ j → getD (line S B flows) t none ≡ some (between S flows i j t)
     value-between r i j t n h k =
-        line-at S N g flows t none (omega (arith, inside j (n .right)))
-        ∙ by-any S (keeps r) flows (turningPoints N g flows) i j t (points-in-order N g flows (blocks-positive N g flows (n .left))) (neighbouring-listed N g flows n) h k
+        line-at S B flows t none (omega (arith, inside (n .right))) ∙ by-any S (keeps r) flows points i j t turning-points-rise (neighbouring-listed B flows n) h k
 
-    pub no-value : (t : ℕ) → ((i j : ℕ) → Neighbouring N g flows i j → i ≤ t → t ≤ j → ⊥) → getD (line S N g flows) t none ≡ none
-    no-value t h = by-length (decLe (length flows) t)
-      where
-        by-length : Dec (length flows ≤ t) → getD (line S N g flows) t none ≡ none
-        by-length (yes l) = List·getD-eq-default (line S N g flows) none (omega (arith, line-length S N g flows))
-        by-length (no l) = line-at S N g flows t none (lt-of-not-le l) ∙ by-none S flows (neighbours (turningPoints N g flows)) t (λ i j m. h i j (listed-neighbouring N g flows m))
+    pub no-value : (t : ℕ) → ((i j : ℕ) → Neighbouring B flows i j → i ≤ t → t ≤ j → ⊥) → getD (line S B flows) t none ≡ none
+    no-value t h =
+        elim (decLe (length flows) t) [
+          | yes l ↦ List·getD-eq-default (line S B flows) none (omega (arith, line-length S B flows))
+          | no l ↦ line-at S B flows t none (lt-of-not-le l) ∙ by-none S flows (neighbours points) t (λ i j m. h i j (listed-neighbouring B flows m))
+        ]
 
-  two-exactly : (hasTwo N g flows ≡ true) ↔ TwoTurningPoints N g flows
+  two-exactly : (hasTwo B flows ≡ true) ↔ TwoTurningPoints B flows
   unfolding hasTwo
   two-exactly = (
-    (λ e. let p = two-neighbours (turningPoints N g flows) (leb-true 2 (length (turningPoints N g flows)) e) in let n = listed-neighbouring N g flows (p .there) in record { i = p .i; j = p .j; left = n .left; right = n .right; in-order = n .in-order }),
-    (λ p. le-leb 2 (length (turningPoints N g flows)) (two-members (turningPoints N g flows) (turns-listed N g flows (p .left)) (turns-listed N g flows (p .right)) (p .in-order))),
+    (λ e. let p = two-neighbours points (leb-true 2 (length points) e) in let n = listed-neighbouring B flows (p .2) in record { i = p .0; j = p .1; left = n .left; right = n .right; in-order = n .in-order }),
+    (λ p. le-leb 2 (length points) (two-members points (turns-listed B flows (p .left)) (turns-listed B flows (p .right)) (p .in-order))),
   )
 
-module _ (N g : ℕ) (days : List (Option ℕ)) where
+module _ (B : Blocks) (days : List (Option ℕ)) where
   -- lists with gaps
   module _ (S : Arithmetic) where
-    pub each-segment-alone : {start : ℕ} {flows : List ℕ} → Segment days start flows → take (length flows) (drop start (lineOver S N g days)) ≡ line S N g flows
+    pub each-segment-alone : {start : ℕ} {flows : List ℕ} → Segment days start flows → take (length flows) (drop start (lineOver S B days)) ≡ line S B flows
     unfolding lineOver
-    each-segment-alone s = alone (line S N g) (line-length S N g) s
+    each-segment-alone s = alone (line S B) (line-length S B) s
 
-    pub missing-days : (t : ℕ) → getD days t none ≡ none → getD (lineOver S N g days) t none ≡ none
+    pub missing-days : (t : ℕ) → getD days t none ≡ none → getD (lineOver S B days) t none ≡ none
     unfolding lineOver
-    missing-days t e = missing-day (line S N g) (line-length S N g) days t e
+    missing-days t e = missing-day (line S B) (line-length S B) days t e
 
-  pub distance : Each (Agree half) days (lineOver rounded N g days) (lineOver exact N g days)
-  distance = line-distance N g days
+  pub distance : Each (Agree half) days (lineOver rounded B days) (lineOver exact B days)
+  distance = line-distance B days
 
   -- 17
-  not-empty : (s : List ℕ) → hasTwo N g s ≡ true → 0 < length s
-  not-empty [] e = absurd (true≢false (sym e ∙ no-points N g))
+  abbrev Nowhere : Type 0
+  Nowhere = (start : ℕ) (flows : List ℕ) → Segment days start flows → TwoTurningPoints B flows → ⊥
+
+  not-empty : (s : List ℕ) → hasTwo B s ≡ true → 0 < length s
+  not-empty [] e = absurd (true≢false (sym e ∙ no-points B))
   not-empty (y ∷ ys) e = omega arith
 
-  pub no-line-exactly : (noLine N g days ≡ true) ↔ ((start : ℕ) (flows : List ℕ) → Segment days start flows → TwoTurningPoints N g flows → ⊥)
+  pub no-line-exactly : (noLine B days ≡ true) ↔ Nowhere
   unfolding noLine
   no-line-exactly = (
-    (λ e start flows s p. true≢false (sym (two-exactly N g flows .1 p) ∙ any-passes (hasTwo N g) flows (all days) (segment-part s) (not-true _ e))),
-    (λ h. by-test h (anyOf (hasTwo N g) (all days)) refl),
+    (λ e start flows s p. true≢false (sym (two-exactly B flows .1 p) ∙ none-passes (hasTwo B) flows (allParts days) (segment-part s) (not-true _ e))),
+    (λ h. by-test h (anyOf (hasTwo B) (allParts days)) refl),
   )
     where
-      by-test : ((start : ℕ) (flows : List ℕ) → Segment days start flows → TwoTurningPoints N g flows → ⊥) → (b : Bool) → anyOf (hasTwo N g) (all days) ≡ b → not (anyOf (hasTwo N g) (all days)) ≡ true
+      by-test : Nowhere → (b : Bool) → anyOf (hasTwo B) (allParts days) ≡ b → not (anyOf (hasTwo B) (allParts days)) ≡ true
       by-test h false e = ap not e
       by-test h true e =
-          let p = one-passes (hasTwo N g) (all days) e in
+          let p = one-passes (hasTwo B) (allParts days) e in
           let s = part-segment days (p .one) (not-empty (p .one) (p .passes)) (p .member) in
-          absurd (h (s .start) (p .one) (s .segment) (two-exactly N g (p .one) .0 (p .passes)))
+          absurd (h (s .start) (p .one) (s .segment) (two-exactly B (p .one) .0 (p .passes)))

@@ -1,35 +1,20 @@
 -- The value of a day by any two neighbouring turning points around it.
 -- Assumes nothing.
-use Prim.Native.Nat.{ℕ, zero, suc, _+_, _*_, _-_, _≤_, _<_}
+use Prim.Native.Nat.{ℕ, _+_, _*_, _-_, _≤_, _<_}
 use mathlib.Core.Path.{_≡_, refl, sym, _∙_, ap}
 use mathlib.Core.List.{List, [], _∷_, List·Memᴰ, List·Memᴰ·head, List·Memᴰ·tail, List·Memᴰ·cases-cons, List·Memᴰ·not-nil}
 use mathlib.Core.Option.{none, some}
 use mathlib.Core.Logic.{⊎-elim}
-use native.Mathlib.Nat.{lt-of-not-le, min-eq-left}
+use native.Mathlib.Nat.{lt-of-not-le}
 use native.Mathlib.Decide.{decLe}
 use native.Mathlib.Omega.{arith}
-use borrow.Author.Tests.{le-leb}
-use Rattle.numbers.specs.Fraction.{whole, quotient, least}
-use Rattle.numbers.specs.Arithmetic.{Arithmetic, rounded, exact}
-use Rattle.numbers.proofs.Rounding.{near-whole}
+use Rattle.numbers.specs.Arithmetic.{Arithmetic}
+use Rattle.numbers.proofs.Quantities.{Keeps}
 use Rattle.minima.specs.Blocks.{flowOn}
 use Rattle.minima.specs.TurningPoints.{neighbours}
-use Rattle.minima.specs.Line.{straight, between, valueOn}
-use Rattle.minima.proofs.Points.{Rising}
+use Rattle.minima.specs.Line.{straight, between, lineOn}
 use Rattle.minima.proofs.Pieces.{value-within, value-before, value-behind}
-use Rattle.minima.proofs.Neighbours.{Rises, Adjacent, pair-adjacent, members-rise}
-
--- a whole number divided by its own factor is not below itself
-abbrev pub Keeps : Arithmetic → Type 0
-Keeps S = (n d : ℕ) → 0 < d → S .least (S .number n) (S .quotient (S .number (n * d)) d) ≡ S .number n
-
-pub rounded-keeps : Keeps rounded
-rounded-keeps n d h = min-eq-left (omega (arith, near-whole n h))
-
-pub exact-keeps : Keeps exact
-unfolding whole quotient least
-exact-keeps n zero h = absurd (omega arith)
-exact-keeps n (suc d) h = simp (le-leb (n * (1 * suc d)) (n * suc d * 1) (omega arith))
+use Rattle.minima.proofs.Neighbours.{Rises, Adjacent, neighbours-adjacent, members-rise}
 
 module _ (S : Arithmetic) (keeps : Keeps S) (flows : List ℕ) where
   -- on a turning point itself the value is the flow, by the piece that ends there and by the piece that begins there
@@ -48,10 +33,10 @@ module _ (S : Arithmetic) (keeps : Keeps S) (flows : List ℕ) where
       ap (λ n. S .least (S .number (1000 * flowOn flows i)) (S .quotient (S .number n) (j - i))) e ∙ keeps (1000 * flowOn flows i) (j - i) (omega arith)
 
   -- a later pair gives it, and an earlier pair that ends where the later one begins gives the same
-  earlier-pair : (a b i j t : ℕ) (pairs : List (ℕ × ℕ)) → a < b → b ≤ i → i < j → i ≤ t → valueOn S flows pairs t ≡ some (between S flows i j t) → valueOn S flows ((a, b) ∷ pairs) t ≡ some (between S flows i j t)
+  earlier-pair : (a b i j t : ℕ) (pairs : List (ℕ × ℕ)) → a < b → b ≤ i → i < j → i ≤ t → lineOn S flows pairs t ≡ some (between S flows i j t) → lineOn S flows ((a, b) ∷ pairs) t ≡ some (between S flows i j t)
   earlier-pair a b i j t pairs p q r h v = by-day (decLe t b)
     where
-      by-day : Dec (t ≤ b) → valueOn S flows ((a, b) ∷ pairs) t ≡ some (between S flows i j t)
+      by-day : Dec (t ≤ b) → lineOn S flows ((a, b) ∷ pairs) t ≡ some (between S flows i j t)
       by-day (no l) = value-behind S flows a b pairs t (lt-of-not-le l) ∙ v
       by-day (yes l) =
           let e : t ≡ b = omega arith in
@@ -60,31 +45,27 @@ module _ (S : Arithmetic) (keeps : Keeps S) (flows : List ℕ) where
           ∙ ap some (ap (between S flows a b) e ∙ value-right a b p ∙ ap (λ n. S .number (1000 * flowOn flows n)) (sym e ∙ f) ∙ sym (value-left i j r) ∙ ap (between S flows i j) (sym f))
 
   -- any pair of neighbours around a day gives its value
-  by-pair : (a : ℕ) (ps : List ℕ) (i j t : ℕ) → Rising a ps → List·Memᴰ (i, j) (neighbours (a ∷ ps)) → i ≤ t → t ≤ j → valueOn S flows (neighbours (a ∷ ps)) t ≡ some (between S flows i j t)
+  pub by-any : (ps : List ℕ) (i j t : ℕ) → Rises ps → List·Memᴰ (i, j) (neighbours ps) → i ≤ t → t ≤ j → lineOn S flows (neighbours ps) t ≡ some (between S flows i j t)
   unfolding neighbours
-  by-pair a [] i j t r m h k = absurd (List·Memᴰ·not-nil m)
-  by-pair a (b ∷ bs) i j t r m h k =
-      ⊎-elim (λ e. first e (ap (λ q. q .0) e) (ap (λ q. q .1) e)) (λ n. later (by-pair b bs i j t (r .1) n h k) (pair-adjacent b bs i j (r .1) n)) (List·Memᴰ·cases-cons m)
+  by-any [] i j t r m h k = absurd (List·Memᴰ·not-nil m)
+  by-any (a ∷ []) i j t r m h k = absurd (List·Memᴰ·not-nil m)
+  by-any (a ∷ b ∷ bs) i j t r m h k =
+      ⊎-elim (λ e. first e (ap (λ q. q .0) e) (ap (λ q. q .1) e)) (λ n. later (by-any (b ∷ bs) i j t (r .1) n h k) (neighbours-adjacent (b ∷ bs) i j (r .1) n)) (List·Memᴰ·cases-cons m)
     where
-      first : _≡_ {A = ℕ × ℕ} (i, j) (a, b) → i ≡ a → j ≡ b → valueOn S flows (neighbours (a ∷ b ∷ bs)) t ≡ some (between S flows i j t)
+      first : _≡_ {A = ℕ × ℕ} (i, j) (a, b) → i ≡ a → j ≡ b → lineOn S flows (neighbours (a ∷ b ∷ bs)) t ≡ some (between S flows i j t)
       first e f g = value-within S flows a b (neighbours (b ∷ bs)) t (omega arith) (omega arith) ∙ ap (λ q. some (between S flows (q .0) (q .1) t)) (sym e)
 
-      later : valueOn S flows (neighbours (b ∷ bs)) t ≡ some (between S flows i j t) → Adjacent (b ∷ bs) i j → valueOn S flows (neighbours (a ∷ b ∷ bs)) t ≡ some (between S flows i j t)
+      later : lineOn S flows (neighbours (b ∷ bs)) t ≡ some (between S flows i j t) → Adjacent (b ∷ bs) i j → lineOn S flows (neighbours (a ∷ b ∷ bs)) t ≡ some (between S flows i j t)
       later v p =
           earlier-pair a b i j t (neighbours (b ∷ bs)) (r .0) (⊎-elim (λ e. omega (arith, e)) (λ n. omega (arith, members-rise b bs (r .1) n)) (List·Memᴰ·cases-cons (p .left))) (p .in-order) h v
 
-  pub by-any : (ps : List ℕ) (i j t : ℕ) → Rises ps → List·Memᴰ (i, j) (neighbours ps) → i ≤ t → t ≤ j → valueOn S flows (neighbours ps) t ≡ some (between S flows i j t)
-  unfolding neighbours
-  by-any [] i j t r m h k = absurd (List·Memᴰ·not-nil m)
-  by-any (a ∷ ps) i j t r m h k = by-pair a ps i j t r m h k
-
 -- a day around which no pair lies has none
-pub by-none : (S : Arithmetic) (flows : List ℕ) (pairs : List (ℕ × ℕ)) (t : ℕ) → ((i j : ℕ) → List·Memᴰ (i, j) pairs → i ≤ t → t ≤ j → ⊥) → valueOn S flows pairs t ≡ none
-unfolding valueOn
+pub by-none : (S : Arithmetic) (flows : List ℕ) (pairs : List (ℕ × ℕ)) (t : ℕ) → ((i j : ℕ) → List·Memᴰ (i, j) pairs → i ≤ t → t ≤ j → ⊥) → lineOn S flows pairs t ≡ none
+unfolding lineOn
 by-none S flows [] t h = refl
 by-none S flows ((i, j) ∷ pairs) t h = by-days (decLe i t) (decLe t j) (by-none S flows pairs t (λ k l m. h k l (List·Memᴰ·tail m)))
   where
-    by-days : Dec (i ≤ t) → Dec (t ≤ j) → valueOn S flows pairs t ≡ none → valueOn S flows ((i, j) ∷ pairs) t ≡ none
+    by-days : Dec (i ≤ t) → Dec (t ≤ j) → lineOn S flows pairs t ≡ none → lineOn S flows ((i, j) ∷ pairs) t ≡ none
     by-days (yes p) (yes q) v = absurd (h i j (List·Memᴰ·head refl) p q)
     by-days (no p) q v = value-before S flows i j pairs t (lt-of-not-le p) ∙ v
     by-days (yes p) (no q) v = value-behind S flows i j pairs t (lt-of-not-le q) ∙ v

@@ -1,30 +1,28 @@
 -- Blocks and their minima (document 01, "Block-minima line"), on the flows of one segment. Days count from the segment's
--- first, which is 0, and so do blocks.
+-- first, which is 0, and so do blocks. `Blocks` is the record of the blocks' length N, the factor g of their turning
+-- points, and the day of a segment from which its blocks run; a segment that ends before that day has no block.
 use Prim.Native.Nat.{ℕ, suc, _+_, _*_, _-_, _/_, _≤_, _<_, min}
 use mathlib.Core.Bool.{cond}
 use mathlib.Core.List.{List, [], _∷_}
 use lib.ListN.{length, getD, take, drop}
 use lib.Dec.{eqb}
+use Rattle.minima.specs.declared.block.Blocks.{Blocks}
 
 -- y(t)
 abbrev pub flowOn : List ℕ → (t : ℕ) → ℕ
 flowOn flows t = getD flows t 0
 
--- the day from which blocks run: the segment's first
-unfoldable pub origin : ℕ
-origin = 0
-
 -- the first day of block k
-unfoldable pub blockStart : (N k : ℕ) → ℕ
-blockStart N k = origin + k * N
+unfoldable pub blockStart : Blocks → (k : ℕ) → ℕ
+blockStart B k = B .origin + k * B .days
 
 -- the number of blocks; an incomplete last one is dropped
-unfoldable pub blockCount : (N : ℕ) → List ℕ → ℕ
-blockCount N flows = (length flows - origin) / N
+unfoldable pub blockCount : Blocks → List ℕ → ℕ
+blockCount B flows = (length flows - B .origin) / B .days
 
 -- the flows of block k
-unfoldable pub block : (N : ℕ) → List ℕ → (k : ℕ) → List ℕ
-block N flows k = take N (drop (blockStart N k) flows)
+unfoldable pub block : Blocks → List ℕ → (k : ℕ) → List ℕ
+block B flows k = take (B .days) (drop (blockStart B k) flows)
 
 -- the lowest flow of a block (0 where there is none)
 unfoldable pub lowest : List ℕ → ℕ
@@ -38,12 +36,12 @@ earliest y [] = 0
 earliest y (x ∷ xs) = cond (eqb x y) 0 (suc (earliest y xs))
 
 -- a block's minimum: its lowest flow ..
-unfoldable pub minimumFlow : (N : ℕ) → List ℕ → (k : ℕ) → ℕ
-minimumFlow N flows k = lowest (block N flows k)
+unfoldable pub minimumFlow : Blocks → List ℕ → (k : ℕ) → ℕ
+minimumFlow B flows k = lowest (block B flows k)
 
 -- .. on the earliest such day
-unfoldable pub minimumDay : (N : ℕ) → List ℕ → (k : ℕ) → ℕ
-minimumDay N flows k = blockStart N k + earliest (minimumFlow N flows k) (block N flows k)
+unfoldable pub minimumDay : Blocks → List ℕ → (k : ℕ) → ℕ
+minimumDay B flows k = blockStart B k + earliest (minimumFlow B flows k) (block B flows k)
 
 -- what a minimum is: of the days from a to before b, d has the lowest flow, and no earlier day has it
 pub record Minimum (flows : List ℕ) (a b d : ℕ) : Type 0 where

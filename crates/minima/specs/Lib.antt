@@ -1,5 +1,5 @@
 pub mod Blocks
 pub mod TurningPoints
 pub mod Line
-pub mod Drawing
-pub mod Pieces
+pub mod Call
+pub mod Private

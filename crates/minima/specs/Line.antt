@@ -8,6 +8,7 @@ use lib.ListN.{length}
 use lib.Dec.{leb}
 use Rattle.numbers.specs.Arithmetic.{Arithmetic}
 use Rattle.series.specs.Segments.{overSegments}
+use Rattle.minima.specs.declared.block.Blocks.{Blocks}
 use Rattle.minima.specs.Blocks.{flowOn}
 use Rattle.minima.specs.TurningPoints.{counting, turningPoints, neighbours}
 
@@ -21,15 +22,15 @@ between S flows i j t = S .least (S .number (1000 * flowOn flows t)) (straight S
 
 -- day t's value by the first of these pairs of neighbours that it lies between, their own days included; all other days
 -- have none
-unfoldable pub valueOn : (S : Arithmetic) → List ℕ → List (ℕ × ℕ) → (t : ℕ) → Option (S .Number)
-valueOn S flows [] t = none
-valueOn S flows ((i, j) ∷ pairs) t =
-    cond (leb i t && leb t j) (some (between S flows i j t)) (valueOn S flows pairs t)
+unfoldable pub lineOn : (S : Arithmetic) → List ℕ → List (ℕ × ℕ) → (t : ℕ) → Option (S .Number)
+lineOn S flows [] t = none
+lineOn S flows ((i, j) ∷ pairs) t =
+    cond (leb i t && leb t j) (some (between S flows i j t)) (lineOn S flows pairs t)
 
-module _ (S : Arithmetic) (N g : ℕ) where
+module _ (S : Arithmetic) (B : Blocks) where
   -- the line of one segment, day by day
   unfoldable pub line : List ℕ → List (Option (S .Number))
-  line flows = map (valueOn S flows (neighbours (turningPoints N g flows))) (counting 0 (length flows))
+  line flows = map (lineOn S flows (neighbours (turningPoints B flows))) (counting 0 (length flows))
 
   -- each segment has its own; missing days have no value
   unfoldable pub lineOver : List (Option ℕ) → List (Option (S .Number))

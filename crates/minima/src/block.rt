@@ -1,41 +1,45 @@
 // Blocks of one segment, their minima and their turning points.
 ghost use mathlib.Core.Path.{_≡_};
-ghost use Prim.Native.Nat.{_+_, _*_, _-_, _<_};
+ghost use Prim.Native.Nat.{_*_, _≤_, _<_};
 ghost use lib.ListN.{length};
-ghost use Rattle.minima.specs.Blocks.{blockCount, minimumDay};
+ghost use Rattle.minima.specs.Blocks.{blockCount, Minimum};
 ghost use Rattle.minima.specs.TurningPoints.{turns};
-ghost use Rattle.minima.specs.Pieces.{Low, Found};
+ghost use Rattle.minima.specs.Private.{Low, Found};
 
-// The day of a segment from which its blocks run.
-const ORIGIN: usize = 0;
+// The blocks of a segment: their length in days, the factor of their turning points in ten-thousandths, and the day of
+// the segment from which they run.
+pub(crate) struct Blocks {
+    pub days: usize,
+    pub factor: u32,
+    pub origin: usize,
+}
 
 // A block's minimum, where a turning point lies or from where one is looked for: its day, its block and the day of the
 // next block's minimum. As an answer, block 0 says that there is no turning point: the first block has none.
-pub struct Turning {
+pub(crate) struct Turning {
     pub day: usize,
     pub block: usize,
     pub after: usize,
 }
 
-// How many times three neighbouring blocks of n days stand in a segment.
-fn triples(n: usize, days: &[u32]) -> usize
-    requires { ⌜ 0 < n ⌝ }
-    ensures { λ r. ⌜ r ≡ blockCount n (now (days .entry)) - 2 ⌝ }
+// How many blocks a segment has.
+fn count(blocks: Blocks, days: &[u32]) -> usize
+    ensures { λ r. ⌜ r ≡ blockCount blocks (now (days .entry)) ⌝ }
 {
-    let blocks = (days.len() - ORIGIN) / n;
-    if blocks < 2 {
+    if blocks.days == 0 {
         return 0;
     }
-    blocks - 2
+    if days.len() < blocks.origin {
+        return 0;
+    }
+    (days.len() - blocks.origin) / blocks.days
 }
 
-// The day of block k's minimum.
-fn minimum_day(n: usize, days: &[u32], k: usize) -> usize
-    requires { ⌜ (0 < n) × (k < blockCount n (now days)) ⌝ }
-    ensures { λ r. ⌜ (r ≡ minimumDay n (now (days .entry)) k) × (r < length (now (days .entry))) ⌝ }
+// The day of the lowest flow of the days from `start` to before `end`, the earliest such.
+fn minimum_day(days: &[u32], start: usize, end: usize) -> usize
+    requires { ⌜ (start < end) × (end ≤ length (now days)) ⌝ }
+    ensures { λ r. ⌜ Minimum (now (days .entry)) start end r ⌝ }
 {
-    let start = ORIGIN + k * n;
-    let end = start + n;
     let mut low = start;
     let mut lowest = days[start];
     let mut t = start + 1;
@@ -68,17 +72,19 @@ fn turns(g: u32, left: u32, middle: u32, right: u32) -> bool
 }
 
 // The first turning point behind a block: the middle of three from that block on. Each minimum is found once.
-pub fn next_turning(n: usize, g: u32, days: &[u32], at: Turning) -> Turning
-    requires { ⌜ (0 < n) × Low n (now days) (at .day) (at .block) (at .after) ⌝ }
-    ensures { λ r. ⌜ Found n g (now (days .entry)) (at .block) r ⌝ }
+pub(crate) fn next_turning(blocks: Blocks, days: &[u32], at: Turning) -> Turning
+    requires { ⌜ Low blocks (now days) (at .day) (at .block) (at .after) ⌝ }
+    ensures { λ r. ⌜ Found blocks (now (days .entry)) (at .block) r ⌝ }
 {
-    let end = triples(n, days);
+    let n = blocks.days;
     let mut k = at.block;
     let mut left = at.day;
     let mut middle = at.after;
-    while k < end {
-        let right = minimum_day(n, days, k + 2);
-        if turns(g, days[left], days[middle], days[right]) {
+    let mut start = blocks.origin + (k + 2) * n;
+    while n <= days.len() - start {
+        let end = start + n;
+        let right = minimum_day(days, start, end);
+        if turns(blocks.factor, days[left], days[middle], days[right]) {
             return Turning {
                 day: middle,
                 block: k + 1,
@@ -88,6 +94,7 @@ pub fn next_turning(n: usize, g: u32, days: &[u32], at: Turning) -> Turning
         k += 1;
         left = middle;
         middle = right;
+        start = end;
     }
     Turning {
         day: 0,
@@ -97,22 +104,23 @@ pub fn next_turning(n: usize, g: u32, days: &[u32], at: Turning) -> Turning
 }
 
 // The first turning point of a segment.
-pub fn first_turning(n: usize, g: u32, days: &[u32]) -> Turning
-    requires { ⌜ 0 < n ⌝ }
-    ensures { λ r. ⌜ Found n g (now (days .entry)) 0 r ⌝ }
+pub(crate) fn first_turning(blocks: Blocks, days: &[u32]) -> Turning
+    ensures { λ r. ⌜ Found blocks (now (days .entry)) 0 r ⌝ }
 {
-    if triples(n, days) == 0 {
+    if count(blocks, days) < 3 {
         return Turning {
             day: 0,
             block: 0,
             after: 0,
         };
     }
-    let day = minimum_day(n, days, 0);
-    let after = minimum_day(n, days, 1);
+    let start = blocks.origin;
+    let second = start + blocks.days;
+    let third = second + blocks.days;
+    let day = minimum_day(days, start, second);
+    let after = minimum_day(days, second, third);
     next_turning(
-        n,
-        g,
+        blocks,
         days,
         Turning {
             day,

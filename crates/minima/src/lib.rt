@@ -4,12 +4,14 @@ mod block;
 mod piece;
 mod segment;
 
+use block::Blocks;
 use series::Refusal;
 use series::Verdict;
+use series::lengths_differ;
+use series::refuse_if;
 ghost use mathlib.Core.Path.{_≡_};
-ghost use Rattle.series.specs.Units.{within};
-ghost use Rattle.series.specs.Causes.{refusalOf, firstCause};
-ghost use Rattle.minima.specs.Drawing.{outOfRange, lineCauses, lineLeaves};
+ghost use Rattle.series.specs.Causes.{refusalOf, firstCause, Decides};
+ghost use Rattle.minima.specs.Call.{blocksOf, outOfRange, lineCauses, lineLeaves};
 
 // The setting of a line: the block length N in days, and the factor g of the turning points in ten-thousandths.
 pub struct LineSetting {
@@ -27,22 +29,39 @@ fn out_of_range(setting: LineSetting) -> bool
     true
 }
 
+// The blocks of a setting, which run from each segment's first day.
+fn blocks_of(setting: LineSetting) -> Blocks
+    ensures { λ r. ⌜ r ≡ blocksOf setting ⌝ }
+{
+    Blocks {
+        days: setting.block_days as usize,
+        factor: setting.factor,
+        origin: 0,
+    }
+}
+
+// The causes of refusal, in the call's order.
+fn check(setting: LineSetting, days: &[u32], base: &[u64]) -> Verdict
+    ensures { λ r. ⌜ Decides (lineCauses setting (now (days .entry)) (now (base .entry))) r ⌝ }
+{
+    let v = Verdict::Accepted;
+    let v = refuse_if(v, out_of_range(setting), Refusal::LineSettingOutOfRange);
+    let v = refuse_if(v, series::too_long(days), Refusal::DayListTooLong);
+    let v = refuse_if(v, lengths_differ(days, base), Refusal::LengthsDiffer);
+    let v = refuse_if(v, series::any_invalid_day(days), Refusal::InvalidDay);
+    let blocks = blocks_of(setting);
+    refuse_if(v, segment::no_line(blocks, days), Refusal::NoLine)
+}
+
 // The minima line of a day list, into a base list of the same length.
 pub fn line(setting: LineSetting, days: &[u32], base: &mut [u64]) -> Verdict
     ensures { λ r. ⌜ refusalOf r ≡ firstCause (lineCauses setting (now (days .entry)) (now (base .entry))) ⌝ }
     ensures { λ r. ⌜ now (base .exit) ≡ lineLeaves setting (now (days .entry)) (now (base .entry)) ⌝ }
 {
-    if out_of_range(setting) {
-        return Verdict::Refused(Refusal::LineSettingOutOfRange);
-    }
-    let verdict = series::check_lists(days, base);
+    let verdict = check(setting, days, base);
     if let Verdict::Refused(refusal) = verdict {
         return Verdict::Refused(refusal);
     }
-    let n = setting.block_days as usize;
-    if segment::no_line(n, setting.factor, days) {
-        return Verdict::Refused(Refusal::NoLine);
-    }
-    segment::draw(n, setting.factor, days, base);
+    segment::draw(blocks_of(setting), days, base);
     Verdict::Accepted
 }

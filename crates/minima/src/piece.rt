@@ -4,7 +4,7 @@ ghost use Prim.Native.Nat.{_≤_};
 ghost use lib.ListN.{length};
 ghost use Rattle.numbers.specs.Arithmetic.{rounded};
 ghost use Rattle.minima.specs.Line.{between};
-ghost use Rattle.minima.specs.Pieces.{Span, FilledTo, Blank};
+ghost use Rattle.minima.specs.Private.{Span, FilledTo, Blank};
 
 // The straight line from turning point to turning point, and at most the flow.
 fn between(days: &[u32], left: usize, right: usize, t: usize) -> u64
@@ -19,7 +19,7 @@ fn between(days: &[u32], left: usize, right: usize, t: usize) -> u64
 }
 
 // The days from day `from` of a piece to its end.
-pub fn fill(days: &[u32], base: &mut [u64], left: usize, right: usize, from: usize)
+pub(crate) fn fill(days: &[u32], base: &mut [u64], left: usize, right: usize, from: usize)
     requires { ⌜ (left ≤ from) × Span (now days) left right × (length (now days) ≡ length (now base)) ⌝ }
     ensures { λ _. ⌜ FilledTo (now (days .entry)) left right from (now (base .entry)) (now (base .exit)) ⌝ }
 {
@@ -31,7 +31,7 @@ pub fn fill(days: &[u32], base: &mut [u64], left: usize, right: usize, from: usi
 }
 
 // The days from day `from` to before day `end`, which no piece has.
-pub fn blank(base: &mut [u64], from: usize, end: usize)
+pub(crate) fn blank(base: &mut [u64], from: usize, end: usize)
     requires { ⌜ end ≤ length (now base) ⌝ }
     ensures { λ _. ⌜ Blank from end (now (base .entry)) (now (base .exit)) ⌝ }
 {

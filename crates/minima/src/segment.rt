@@ -1,5 +1,6 @@
 // The line of each segment of a day list.
 use crate::block;
+use crate::block::Blocks;
 use crate::piece;
 ghost use mathlib.Core.Path.{_≡_};
 ghost use mathlib.Core.List.{map};
@@ -8,28 +9,27 @@ ghost use lib.ListN.{length};
 ghost use Rattle.numbers.specs.Arithmetic.{rounded};
 ghost use Rattle.series.specs.Units.{dayOf, baseMark};
 ghost use Rattle.minima.specs.Line.{line};
-ghost use Rattle.minima.specs.Drawing.{hasTwo, noLine, lineList};
-ghost use Rattle.minima.specs.Pieces.{SegmentEnd};
+ghost use Rattle.minima.specs.Call.{hasTwo, noLine, lineList};
+ghost use Rattle.minima.specs.Private.{SegmentEnd};
 
 // Whether a segment has two turning points.
-fn has_two(n: usize, g: u32, days: &[u32]) -> bool
-    requires { ⌜ 0 < n ⌝ }
-    ensures { λ r. ⌜ r ≡ hasTwo n g (now (days .entry)) ⌝ }
+fn has_two(blocks: Blocks, days: &[u32]) -> bool
+    ensures { λ r. ⌜ r ≡ hasTwo blocks (now (days .entry)) ⌝ }
 {
-    let first = block::first_turning(n, g, days);
+    let first = block::first_turning(blocks, days);
     if first.block == 0 {
         return false;
     }
-    let second = block::next_turning(n, g, days, first);
+    let second = block::next_turning(blocks, days, first);
     0 < second.block
 }
 
 // The line of one segment, each day of it written once.
-fn draw_segment(n: usize, g: u32, days: &[u32], base: &mut [u64])
-    requires { ⌜ (0 < n) × (length (now days) ≤ 36525) × (length (now days) ≡ length (now base)) ⌝ }
-    ensures { λ _. ⌜ now (base .exit) ≡ map baseMark (line rounded n g (now (days .entry))) ⌝ }
+fn draw_segment(blocks: Blocks, days: &[u32], base: &mut [u64])
+    requires { ⌜ (length (now days) ≤ 36525) × (length (now days) ≡ length (now base)) ⌝ }
+    ensures { λ _. ⌜ now (base .exit) ≡ map baseMark (line rounded blocks (now (days .entry))) ⌝ }
 {
-    let first = block::first_turning(n, g, days);
+    let first = block::first_turning(blocks, days);
     if first.block == 0 {
         piece::blank(base, 0, days.len());
         return;
@@ -37,12 +37,12 @@ fn draw_segment(n: usize, g: u32, days: &[u32], base: &mut [u64])
     let mut left = first.day;
     piece::blank(base, 0, left);
     let mut t = left;
-    let mut right = block::next_turning(n, g, days, first);
+    let mut right = block::next_turning(blocks, days, first);
     while 0 < right.block {
         piece::fill(days, base, left, right.day, t);
         t = right.day + 1;
         left = right.day;
-        right = block::next_turning(n, g, days, right);
+        right = block::next_turning(blocks, days, right);
     }
     piece::blank(base, t, days.len());
 }
@@ -63,14 +63,13 @@ fn segment_end(days: &[u32], from: usize) -> usize
 }
 
 // 17: no segment has two turning points.
-pub fn no_line(n: usize, g: u32, days: &[u32]) -> bool
-    requires { ⌜ 0 < n ⌝ }
-    ensures { λ r. ⌜ r ≡ noLine n g (map dayOf (now (days .entry))) ⌝ }
+pub(crate) fn no_line(blocks: Blocks, days: &[u32]) -> bool
+    ensures { λ r. ⌜ r ≡ noLine blocks (map dayOf (now (days .entry))) ⌝ }
 {
     let mut i = 0;
     while i < days.len() {
         let end = segment_end(days, i);
-        if has_two(n, g, &days[i..end]) {
+        if has_two(blocks, &days[i..end]) {
             return false;
         }
         i = end + 1;
@@ -79,14 +78,14 @@ pub fn no_line(n: usize, g: u32, days: &[u32]) -> bool
 }
 
 // The lines of all segments, and no value on the missing days between them.
-pub fn draw(n: usize, g: u32, days: &[u32], base: &mut [u64])
-    requires { ⌜ (0 < n) × (length (now days) ≤ 36525) × (length (now days) ≡ length (now base)) ⌝ }
-    ensures { λ _. ⌜ now (base .exit) ≡ lineList n g (now (days .entry)) ⌝ }
+pub(crate) fn draw(blocks: Blocks, days: &[u32], base: &mut [u64])
+    requires { ⌜ (length (now days) ≤ 36525) × (length (now days) ≡ length (now base)) ⌝ }
+    ensures { λ _. ⌜ now (base .exit) ≡ lineList blocks (now (days .entry)) ⌝ }
 {
     let mut i = 0;
     while i < days.len() {
         let end = segment_end(days, i);
-        draw_segment(n, g, &days[i..end], &mut base[i..end]);
+        draw_segment(blocks, &days[i..end], &mut base[i..end]);
         if end == days.len() {
             return;
         }

@@ -3,4 +3,8 @@ mod Whole
 pub mod Fractions
 pub mod Quantities
 pub mod Scanning
+pub mod Recursion
+pub mod Pairwise
+pub mod Sorting
+pub mod Selection
 mod Examples

@@ -1,11 +1,17 @@
--- Fractions that are not below zero, by the two natural numbers that they are made of.
+-- Fractions that are not below zero, by the two natural numbers that they are made of; and by that what the two readings
+-- of a rule keep.
 -- Assumes nothing.
 use Prim.Native.Nat.{ℕ, zero, suc, _+_, _*_, _≤_, _<_}
-use mathlib.Core.Path.{_≡_, refl, ap, ap₂}
+use mathlib.Core.Path.{_≡_, refl, ap, ap₂, sym, subst}
+use native.Mathlib.Nat.{min-eq-left}
 use native.Mathlib.Omega.{arith}
-use lib.IntN.{ℤ, pos, _+ℤ_, _*ℤ_}
-use Rattle.numbers.specs.Fraction.{Fraction, whole, half, sum, multiple, quotient, AtMost}
-use Rattle.numbers.proofs.Fractions.{in-naturals}
+use borrow.Author.Tests.{le-leb}
+use lib.IntN.{pos, _+ℤ_, _*ℤ_}
+use Rattle.numbers.specs.Near.{near}
+use Rattle.numbers.specs.Fraction.{Fraction, whole, half, sum, multiple, quotient, least, AtMost}
+use Rattle.numbers.specs.Arithmetic.{Arithmetic, Close, Weights, weighted, rounded, exact}
+use Rattle.numbers.proofs.Rounding.{near-by-zero, near-whole}
+use Rattle.numbers.proofs.Fractions.{in-naturals, close-number, close-quotient, close-weaken}
 
 -- f is a / l
 pub record Reads (f : Fraction) (a l : ℕ) : Type 0 where
@@ -41,3 +47,38 @@ reads-quotient (suc d) h r = record { upper = r .upper; lower = ap (λ n. n * su
 pub at-most : {f g : Fraction} {a l b m : ℕ} → Reads f a l → Reads g b m → a * m ≤ b * l → AtMost f g
 at-most {f} {g} {a} {l} {b} {m} r s h =
     in-naturals f g .1 (rw (r .upper, s .upper, r .lower, s .lower) (omega arith))
+
+-- (A × f + B × u + C × v) / d, of fractions and of whole numbers
+pub reads-weighted : (w : Weights) {f u v : Fraction} {a k b l c m : ℕ} → 0 < w .d → Reads f a k → Reads u b l → Reads v c m
+    → Reads (weighted exact w f u v) ((a * w .A * l + b * w .B * k) * m + c * w .C * (k * l)) (k * l * m * w .d)
+unfolding weighted
+reads-weighted w h r s t =
+    reads-quotient (w .d) h (reads-sum (reads-sum (reads-multiple (w .A) r) (reads-multiple (w .B) s)) (reads-multiple (w .C) t))
+
+pub weighted-rounded : (w : Weights) (f u v : ℕ) → weighted rounded w f u v ≡ near (w .A * f + w .B * u + w .C * v) (w .d)
+unfolding weighted
+weighted-rounded w f u v = refl
+
+-- a whole number is exact
+pub close-exact : {l : Fraction} {a m : ℕ} (n : ℕ) → Reads l a m → Close l n (whole n)
+close-exact n r = close-weaken (at-most (reads-whole 0) r (omega arith)) (close-number n)
+
+-- one rounded quotient of a whole number; by zero both are 0
+pub close-near : (a d : ℕ) → Close half (near a d) (quotient (whole a) d)
+unfolding quotient
+close-near a zero = subst (λ n. Close half n (whole 0)) (sym (near-by-zero a)) (close-exact 0 reads-half)
+close-near a (suc d) =
+    close-weaken (at-most (reads-sum (reads-quotient (suc d) (omega arith) (reads-whole 0)) reads-half) reads-half (omega arith))
+    (close-quotient (suc d) (omega arith) (close-number a))
+
+-- in both readings a whole number divided by its own factor is not below itself
+abbrev pub Keeps : Arithmetic → Type 0
+Keeps S = (n d : ℕ) → 0 < d → S .least (S .number n) (S .quotient (S .number (n * d)) d) ≡ S .number n
+
+pub rounded-keeps : Keeps rounded
+rounded-keeps n d h = min-eq-left (omega (arith, near-whole n h))
+
+pub exact-keeps : Keeps exact
+unfolding whole quotient least
+exact-keeps n zero h = absurd (omega arith)
+exact-keeps n (suc d) h = simp (le-leb (n * (1 * suc d)) (n * suc d * 1) (omega arith))

@@ -1,10 +1,10 @@
 -- The laws of near that every other proof uses in place of its text.
 -- The error laws hold of any nearest whole number, whatever the rule for halves (`error`).
 -- Assumes nothing.
-use Prim.Native.Nat.{ℕ, zero, suc, _+_, _*_, _-_, _/_, _%_, _≤_, _<_, max}
-use mathlib.Core.Path.{_≡_, sym, subst}
+use Prim.Native.Nat.{ℕ, zero, suc, _+_, _*_, _-_, _/_, _%_, _≤_, _<_}
+use mathlib.Core.Path.{_≡_, sym, ap, subst}
 use mathlib.Core.Logic.{⊎-elim}
-use native.Mathlib.Nat.{le-trans, mul-le-mul-right, mul-le-mul-left, le-div-iff-mul-le, lt-div-mul-add, div-mul-le-self, div-eq-of-lt-le, div-zero, div-add-mod', mod-lt, le-max-left, le-max-right, eq-or-lt-of-le, lt-of-not-le}
+use native.Mathlib.Nat.{mul-le-mul-right, mul-le-mul-left, lt-div-mul-add, div-mul-le-self, div-eq-of-lt-le, div-zero, div-add-mod', mod-lt, eq-or-lt-of-le, lt-of-not-le}
 use native.Mathlib.Decide.{decLe}
 use native.Mathlib.Omega.{arith}
 use Rattle.numbers.specs.Near.{near, distance, Nearest, NearestHalvesUp}
@@ -42,29 +42,37 @@ module _ (a b : ℕ) (p : 0 < b) where
   pub near-error : HalfError a b (near a b)
   near-error = error p (near-sentence .nearest)
 
+-- What follows of any whole number that lies at most one half from a / b, whatever the rule for halves: it lies on the
+-- same side of every whole number as a / b.
+module _ {a b n : ℕ} (p : 0 < b) (h : HalfError a b n) where
+  pub half-at-most : {m : ℕ} → a ≤ m * b → n ≤ m
+  half-at-most {m} l = elim (decLe n m) [ yes g ↦ g | no g ↦ absurd (omega (arith, h .above, mul-le-mul-right b (lt-of-not-le g))) ]
+
+  pub half-at-least : {m : ℕ} → m * b ≤ a → m ≤ n
+  half-at-least {m} l = elim (decLe m n) [ yes g ↦ g | no g ↦ absurd (omega (arith, h .below, mul-le-mul-right b (lt-of-not-le g))) ]
+
+-- of a larger fraction it is no smaller
+half-monotone : {a a′ b n n′ : ℕ} → 0 < b → a < a′ → HalfError a b n → HalfError a′ b n′ → n ≤ n′
+half-monotone {b = b} {n} {n′} p l h h′ = elim (decLe n n′) [ yes g ↦ g | no g ↦ absurd (omega (arith, h .above, h′ .below, mul-le-mul-right b (lt-of-not-le g))) ]
+
+pub near-at-most : {a b n : ℕ} → 0 < b → a ≤ n * b → near a b ≤ n
+near-at-most {a} {b} p l = half-at-most p (near-error a b p) l
+
+pub near-at-least : {a b n : ℕ} → 0 < b → n * b ≤ a → n ≤ near a b
+near-at-least {a} {b} p l = half-at-least p (near-error a b p) l
+
+-- a whole number stays
+pub near-whole : (n : ℕ) {b : ℕ} → 0 < b → near (n * b) b ≡ n
+near-whole n {b} p = omega (arith, near-at-most {a = n * b} {b = b} {n = n} p (omega arith), near-at-least {a = n * b} {b = b} {n = n} p (omega arith))
+
+pub near-monotone : {a a′ b : ℕ} → 0 < b → a ≤ a′ → near a b ≤ near a′ b
+near-monotone {a} {a′} {b} p l =
+    ⊎-elim (λ e. omega (arith, ap (λ n. near n b) e)) (λ g. half-monotone p g (near-error a b p) (near-error a′ b p)) (eq-or-lt-of-le l)
+
 -- the one whole number that the definition allows
 pub near-is : (a b n : ℕ) → 0 < b → 2 * (n * b) ≤ 2 * a + b → 2 * a < 2 * (n * b) + b → near a b ≡ n
 unfolding near
 near-is a b n p l h = div-eq-of-lt-le {k = n} (2 * b) {m = 2 * a + b} (omega arith) (omega arith)
-
-pub near-monotone : {a a′ b : ℕ} → 0 < b → a ≤ a′ → near a b ≤ near a′ b
-unfolding near
-near-monotone {a} {a′} {b} p h =
-    le-div-iff-mul-le {k = 2 * b} {x = (2 * a + b) / (2 * b)} {y = 2 * a′ + b} (omega arith) .1
-    (omega (arith, div-mul-le-self (2 * a + b) (2 * b)))
-
--- a whole number stays
-pub near-whole : (n : ℕ) {b : ℕ} → 0 < b → near (n * b) b ≡ n
-near-whole n {b} p = near-is (n * b) b n p (omega arith) (omega arith)
-
-pub near-at-most : {a b n : ℕ} → 0 < b → a ≤ n * b → near a b ≤ n
-near-at-most {n = n} p h = omega (arith, near-whole n p, near-monotone p h)
-
--- a weighted mean whose weights add up to at most d is at most the largest of its numbers
-pub near-mean : (A B C d f u v : ℕ) → 0 < d → A + B + C ≤ d → near (A * f + B * u + C * v) d ≤ max f (max u v)
-near-mean A B C d f u v p h =
-    near-at-most p
-    (omega (arith, mul-le-mul-left A (le-max-left f (max u v)), mul-le-mul-left B (le-trans (le-max-left u v) (le-max-right f (max u v))), mul-le-mul-left C (le-trans (le-max-right u v) (le-max-right f (max u v))), mul-le-mul-right (max f (max u v)) h))
 
 -- near by one division, as the code does it
 pub near-by-zero : (a : ℕ) → near a 0 ≡ 0

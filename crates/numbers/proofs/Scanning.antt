@@ -15,6 +15,14 @@ unfolding scan
 scan-length next out s [] = refl
 scan-length next out s (x ∷ xs) = ap suc (scan-length next out (next s x) xs)
 
+pub scan-none : {S A B : Type 0} (next : S → A → S) (out : S → A → B) (s : S) → scan next out s [] ≡ []
+unfolding scan
+scan-none next out s = refl
+
+pub scan-next : {S A B : Type 0} (next : S → A → S) (out : S → A → B) (s : S) (x : A) (xs : List A) → scan next out s (x ∷ xs) ≡ out s x ∷ scan next out (next s x) xs
+unfolding scan
+scan-next next out s x xs = refl
+
 -- into another list: xs is read, ys is written
 module _ {S A B : Type 0} (next : S → A → S) (out : S → A → B) (xs : List A) (x₀ : A) where
   pub into-turn : (ys : List B) (i : ℕ) (s : S) {v : B} {s′ : S} → i < length xs → i < length ys → v ≡ out s (getD xs i x₀) → s′ ≡ next s (getD xs i x₀)
@@ -51,6 +59,10 @@ module _ {S A : Type 0} (next : S → A → S) (out : S → A → A) (x₀ : A) 
 
   pub back-start : (xs : List A) (s : S) (i : ℕ) → length xs ≤ i → backward s (take i xs) ++ drop i xs ≡ backward s xs
   back-start xs s i h = rw (take-all i xs h, drop-of-length-le xs h, append-nil)
+
+  pub back-end : (xs : List A) (s : S) (i : ℕ) → i ≤ 0 → backward s (take i xs) ++ drop i xs ≡ xs
+  unfolding scan
+  back-end xs s i h = let e : i ≡ 0 = omega arith in rw e
 
 -- a run seen through views of its states, inputs and outputs
 module _ {S S′ A A′ B B′ : Type 0} (next : S → A → S) (out : S → A → B) (next′ : S′ → A′ → S′) (out′ : S′ → A′ → B′) (state : S → S′) (input : A → A′) (output : B′ → B)

@@ -1,7 +1,7 @@
 -- Whole numbers of either sign as the difference of two natural numbers, of which one is zero: `up z - down z`.
 -- By these laws an order of sums and multiples becomes one of natural numbers, which `omega` proves.
 -- Assumes nothing.
-use Prim.Native.Nat.{ℕ, zero, suc, _+_, _*_, _-_, _≤_}
+use Prim.Native.Nat.{ℕ, zero, suc, _+_, _*_, _≤_}
 use mathlib.Core.Path.{_≡_, refl}
 use mathlib.Core.Logic.{_↔_}
 use mathlib.Core.Bool.{Bool, true, false, true≢false}

@@ -2,3 +2,5 @@ pub mod Near
 pub mod Fraction
 pub mod Arithmetic
 pub mod Scan
+pub mod Lists
+pub mod Order

@@ -11,9 +11,8 @@ use lib.Dec.{eqb}
 use lib.ListN.{length, getD, drop, set, length-drop, length-set}
 use lib.Seq.{drop-cons, getD-set-same, getD-set-other}
 use Rattle.numbers.proofs.Rounding.{near-at-most}
-use Rattle.recession.specs.Limbs.{Falling}
 use Rattle.recession.specs.Ratios.{ratio, pairRatios}
-use Rattle.recession.specs.Private.{howMany, Added}
+use Rattle.recession.specs.Private.{Falling, howMany, Added}
 
 -- a ratio of a fall is at most 10000
 pub ratio-at-most : (earlier later : ℕ) → later < earlier → ratio earlier later ≤ 10000

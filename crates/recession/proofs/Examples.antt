@@ -4,12 +4,15 @@ use Prim.Native.Nat.{ℕ}
 use mathlib.Core.Path.{_≡_, refl}
 use mathlib.Core.List.{List, [], _∷_, map}
 use Rattle.numbers.specs.Near.{near}
-use Rattle.series.specs.Units.{missingMark, isInvalidDay, dayOf}
+use Rattle.numbers.specs.Lists.{selected}
+use Rattle.numbers.specs.Order.{insertRising, rising, atRank}
+use Rattle.series.specs.Units.{missingMark, isInvalidDay, dayOf, within}
 use Rattle.series.specs.Lists.{tooLong, anyInvalidDay}
 use Rattle.series.specs.Causes.{Outcome, accepted, refused}
-use Rattle.recession.specs.Limbs.{continues, fall, runsFrom, selected, hasAtLeast, limbs, counted}
-use Rattle.recession.specs.Ratios.{pairRatios, limbRatios, insertRising, rising, atRank, median}
-use Rattle.recession.specs.Call.{limbDaysOutOfRange, noRatio, limbListTooShort, countedLimbs, countedRatios, ratioCauses, Statistics, ratioOutcome, Entry, entryOf}
+use Rattle.series.specs.Runs.{joined, further, runsFrom}
+use Rattle.recession.specs.Limbs.{limbDay, limbDays, hasAtLeast, limbs, counted}
+use Rattle.recession.specs.Ratios.{pairRatios, limbRatios, median}
+use Rattle.recession.specs.Call.{noRatio, limbListTooShort, countedLimbs, countedRatios, ratioCauses, Statistics, ratioOutcome, LimbEntry, limbEntry}
 
 -- a river: L, the days, the limb list; the answer, and the counted limbs
 record River : Type 0 where
@@ -17,12 +20,12 @@ record River : Type 0 where
   days : List ℕ
   list : List ℕ
   answer : Outcome Statistics
-  listed : List Entry
+  listed : List LimbEntry
 
 abbrev values : ℕ → ℕ → Outcome Statistics
 values k r = accepted (record { count = k; median = r })
 
-abbrev entry : ℕ → ℕ → Entry
+abbrev entry : ℕ → ℕ → LimbEntry
 entry start days = record { start = start; days = days }
 
 -- room for two limbs
@@ -73,9 +76,9 @@ rivers =
     ∷ []
 
 pub answers : map (λ r. ratioOutcome (r .L) (r .days) (r .list)) rivers ≡ map (λ r. r .answer) rivers
-unfolding ratioOutcome ratioCauses limbDaysOutOfRange tooLong anyInvalidDay isInvalidDay noRatio limbListTooShort countedRatios countedLimbs counted limbs selected hasAtLeast runsFrom fall continues dayOf limbRatios pairRatios near median atRank rising insertRising
+unfolding ratioOutcome ratioCauses within tooLong anyInvalidDay isInvalidDay noRatio limbListTooShort countedRatios countedLimbs counted limbs selected hasAtLeast runsFrom further joined limbDays limbDay dayOf limbRatios pairRatios near median atRank rising insertRising
 answers = refl
 
-pub limbs-listed : map (λ r. map entryOf (countedLimbs (r .L) (r .days))) rivers ≡ map (λ r. r .listed) rivers
-unfolding countedLimbs counted limbs selected hasAtLeast runsFrom fall continues dayOf
+pub limbs-listed : map (λ r. map limbEntry (countedLimbs (r .L) (r .days))) rivers ≡ map (λ r. r .listed) rivers
+unfolding countedLimbs counted limbs selected hasAtLeast runsFrom further joined limbDays limbDay dayOf
 limbs-listed = refl

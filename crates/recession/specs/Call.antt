@@ -1,21 +1,17 @@
 -- The ratio call of document 01: its causes of refusal, its answer, and the limb list at exit.
 use Prim.Native.Nat.{ℕ, _*_}
 use mathlib.Core.Path.{_≡_}
-use mathlib.Core.Bool.{Bool, _||_}
+use mathlib.Core.Bool.{Bool, not}
 use mathlib.Core.List.{List, [], _∷_, map, List·Permᴰ}
 use lib.ListN.{length, take, drop}
 use lib.Dec.{ltb, eqb}
-use Rattle.series.specs.Units.{dayOf}
+use Rattle.series.specs.Units.{within}
 use Rattle.series.specs.Lists.{tooLong, anyInvalidDay}
 use Rattle.series.specs.Causes.{Cause, cause, Outcome, accepted, refused, outcome, refusalNumber}
-use Rattle.recession.specs.Limbs.{Limb, counted}
+use Rattle.recession.specs.Limbs.{Limb, limbDays, counted}
 use Rattle.recession.specs.Ratios.{limbRatios, median}
 use Rattle.recession.specs.declared.Answer.{Answer}
 use Rattle.recession.specs.declared.Answer.the-variants.{Ratios, Refused}
-
--- 18: L outside its range, 2 to 60
-unfoldable pub limbDaysOutOfRange : ℕ → Bool
-limbDaysOutOfRange L = ltb L 2 || ltb 60 L
 
 -- 19: no ratio
 unfoldable pub noRatio : List ℕ → Bool
@@ -27,15 +23,15 @@ limbListTooShort limbs list = ltb (length list) (2 * length limbs)
 
 -- the counted limbs of a day list, and their ratios
 unfoldable pub countedLimbs : ℕ → List ℕ → List Limb
-countedLimbs L days = counted L (map dayOf days)
+countedLimbs L days = counted L (limbDays days)
 
 unfoldable pub countedRatios : ℕ → List ℕ → List ℕ
 countedRatios L days = limbRatios (countedLimbs L days)
 
--- the causes, in document 01's order
+-- order: ratios 18, 9, 10, 19, 22; L is 2 to 60
 unfoldable pub ratioCauses : ℕ → List ℕ → List ℕ → List Cause
 ratioCauses L days list =
-    cause (limbDaysOutOfRange L) 18
+    cause (not (within 2 60 L)) 18
     ∷ cause (tooLong days) 9
     ∷ cause (anyInvalidDay days) 10
     ∷ cause (noRatio (countedRatios L days)) 19
@@ -58,26 +54,26 @@ outcomeOf (Ratios count median) = accepted (record { count = count; median = med
 outcomeOf (Refused r) = refused (refusalNumber r)
 
 -- a counted limb as the limb list has it: the position of its first day, its number of days
-pub record Entry : Type 0 where
+pub record LimbEntry : Type 0 where
   pub start : ℕ
   pub days : ℕ
 
-abbrev pub entryOf : Limb → Entry
-entryOf l = record { start = l .start; days = length (l .flows) }
+abbrev pub limbEntry : Limb → LimbEntry
+limbEntry l = record { start = l .start; days = length (l .flows) }
 
 -- a list of numbers, read in pairs
-unfoldable pub inPairs : List ℕ → List Entry
+unfoldable pub inPairs : List ℕ → List LimbEntry
 inPairs [] = []
 inPairs (a ∷ []) = []
 inPairs (a ∷ b ∷ l) = record { start = a; days = b } ∷ inPairs l
 
 -- the free part of the promise: the order in which the limbs are listed, as it stands in the written front
-unfoldable pub listedOrder : List Limb → List ℕ → List Entry
+unfoldable pub listedOrder : List Limb → List ℕ → List LimbEntry
 listedOrder limbs exit = inPairs (take (2 * length limbs) exit)
 
 -- the limb list at exit of a call that accepts: in that order each counted limb once and nothing else, and then the rest as it was
 pub record Listed (limbs : List Limb) (entry exit : List ℕ) : Type 0 where
-  pub each-once : List·Permᴰ (listedOrder limbs exit) (map entryOf limbs)
+  pub each-once : List·Permᴰ (listedOrder limbs exit) (map limbEntry limbs)
   pub rest : drop (2 * length limbs) exit ≡ drop (2 * length limbs) entry
 
 -- the limb list at exit: listed, or as it was where the call refuses

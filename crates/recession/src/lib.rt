@@ -1,13 +1,18 @@
 // Recession ratios: the recession constant of a river from its own falling limbs, with every counted limb listed.
+use series::Refusal;
+use series::Verdict;
+use series::refuse_if;
 ghost use mathlib.Core.Path.{_≡_};
 ghost use Prim.Native.Nat.{ℕ, _+_, _*_, _<_, _≤_, _^_};
 ghost use lib.ListN.{length, getD};
+ghost use Rattle.numbers.specs.Lists.{stored};
 ghost use Rattle.series.specs.Units.{dayOf, dayLimit};
-ghost use Rattle.recession.specs.Limbs.{Falling, continues};
+ghost use Rattle.series.specs.Runs.{joined};
+ghost use Rattle.series.specs.Causes.{Decides};
+ghost use Rattle.recession.specs.Limbs.{limbDay, falls};
 ghost use Rattle.recession.specs.Ratios.{ratio, pairRatios};
-ghost use Rattle.recession.specs.Call.{limbDaysOutOfRange, countedLimbs, ratioOutcome, outcomeOf, LimbList};
-ghost use Rattle.recession.specs.Private.{walked, runEnd, howMany, Added, Tallied, total, AtRank, entries, written};
-use series::Refusal;
+ghost use Rattle.recession.specs.Call.{countedLimbs, ratioOutcome, outcomeOf, LimbList};
+ghost use Rattle.recession.specs.Private.{Falling, limbsFrom, runEnd, NextLimb, howMany, Added, Tallied, total, AtRank, entries, dayCauses, tallyCauses};
 
 // The range of L, the fewest days of a limb that counts.
 pub const LEAST_LIMB_DAYS: u32 = 2;
@@ -21,19 +26,16 @@ pub enum Answer {
     Refused(Refusal),
 }
 
-// 18: L is outside its range.
-fn out_of_range(shortest: u32) -> bool
-    ensures { λ r. ⌜ r ≡ limbDaysOutOfRange shortest ⌝ }
+// A day as limbs see it: its flow, or series::MISSING. Limbs see every present day.
+fn limb_day(day: u32) -> u32
+    ensures { λ r. ⌜ dayOf r ≡ limbDay day ⌝ }
 {
-    if shortest < LEAST_LIMB_DAYS {
-        return true;
-    }
-    MOST_LIMB_DAYS < shortest
+    day
 }
 
-// A day could stand in a limb behind the day before it. (A missing day is below none: its mark is the largest number.)
-fn continues(earlier: u32, later: u32) -> bool
-    ensures { λ r. ⌜ r ≡ continues (dayOf earlier) (dayOf later) ⌝ }
+// A flow is strictly below the one before. (A missing day is below none: its mark is the largest number.)
+fn falls(earlier: u32, later: u32) -> bool
+    ensures { λ r. ⌜ r ≡ joined falls (dayOf earlier) (dayOf later) ⌝ }
 {
     if earlier == series::MISSING {
         return false;
@@ -49,12 +51,34 @@ fn run_end(days: &[u32], start: usize) -> usize
     let second = start + 1;
     let mut end = second;
     while end < days.len() {
-        if !continues(days[end - 1], days[end]) {
+        if !falls(limb_day(days[end - 1]), limb_day(days[end])) {
             return end;
         }
         end += 1;
     }
     end // it falls up to the last day
+}
+
+// A limb that counts, by the position of its first day and the one behind its last; no days where none is left.
+struct Span {
+    first: usize,
+    end: usize,
+}
+
+// The next limb of at least `shortest` days, from a position on.
+fn next_limb(shortest: usize, days: &[u32], from: usize) -> Span
+    requires { ⌜ 2 ≤ shortest ⌝ }
+    ensures { λ r. ⌜ NextLimb shortest (now (days .entry)) from (r .first) (r .end) ⌝ }
+{
+    let mut first = from;
+    while first < days.len() {
+        let end = run_end(days, first);
+        if shortest <= end - first {
+            return Span { first, end };
+        }
+        first = end;
+    }
+    Span { first, end: first }
 }
 
 // The ratio of two neighbouring days of a limb, in ten-thousandths.
@@ -90,20 +114,18 @@ struct Tally {
 fn tally_limbs(shortest: usize, days: &[u32], counts: &mut [u32; 10001]) -> Tally
     requires { ⌜ (2 ≤ shortest) × (length (now days) ≤ dayLimit) ⌝ }
     requires { ⌜ (length (now counts) ≡ 10001) × ((v : ℕ) → getD (now counts) v 0 ≡ 0) ⌝ }
-    ensures { λ r. ⌜ Tallied (walked shortest (now (days .entry))) (r .limbs) (r .ratios) (now (counts .entry)) (now (counts .exit)) ⌝ }
+    ensures { λ r. ⌜ Tallied (limbsFrom shortest (now (days .entry)) 0) (r .limbs) (r .ratios) (now (counts .entry)) (now (counts .exit)) ⌝ }
 {
     let mut limbs = 0;
     let mut ratios = 0;
-    let mut start = 0;
-    while start < days.len() {
-        let end = run_end(days, start);
-        let length = end - start;
-        if shortest <= length {
-            tally_pairs(&days[start..end], &mut *counts);
-            limbs += 1;
-            ratios += length - 1;
-        }
-        start = end;
+    let mut limb = next_limb(shortest, days, 0);
+    while limb.first < limb.end {
+        let first = limb.first;
+        let end = limb.end;
+        tally_pairs(&days[first..end], &mut *counts);
+        limbs += 1;
+        ratios += end - first - 1;
+        limb = next_limb(shortest, days, end);
     }
     Tally { limbs, ratios }
 }
@@ -129,21 +151,40 @@ fn at_rank(counts: &[u32; 10001], rank: u32) -> u32
 // Writes position and number of days of each limb of at least `shortest` days, from the list's start.
 fn list_limbs(shortest: usize, days: &[u32], list: &mut [u32])
     requires { ⌜ (2 ≤ shortest) × (length (now days) ≤ dayLimit) ⌝ }
-    requires { ⌜ length (entries (walked shortest (now days))) ≤ length (now list) ⌝ }
-    ensures { λ r. ⌜ now (list .exit) ≡ written (walked shortest (now (days .entry))) (now (list .entry)) ⌝ }
+    requires { ⌜ length (entries (limbsFrom shortest (now days) 0)) ≤ length (now list) ⌝ }
+    ensures { λ r. ⌜ now (list .exit) ≡ stored (now (list .entry)) 0 (entries (limbsFrom shortest (now (days .entry)) 0)) ⌝ }
 {
     let mut at = 0;
-    let mut first = 0;
-    while first < days.len() {
-        let end = run_end(days, first);
-        let size = end - first;
-        if shortest <= size {
-            list[at] = first as u32;
-            list[at + 1] = size as u32;
-            at += 2;
-        }
-        first = end;
+    let mut limb = next_limb(shortest, days, 0);
+    while limb.first < limb.end {
+        let first = limb.first;
+        let end = limb.end;
+        list[at] = first as u32;
+        list[at + 1] = (end - first) as u32;
+        at += 2;
+        limb = next_limb(shortest, days, end);
     }
+}
+
+// The checks before a limb is looked for: 18, 9, 10.
+fn check(shortest: u32, days: &[u32]) -> Verdict
+    ensures { λ r. ⌜ Decides (dayCauses shortest (now (days .entry))) r ⌝ }
+{
+    let v = Verdict::Accepted;
+    let in_range = series::within(LEAST_LIMB_DAYS, MOST_LIMB_DAYS, shortest);
+    let v = refuse_if(v, !in_range, Refusal::LimbDaysOutOfRange);
+    let v = refuse_if(v, series::too_long(days), Refusal::DayListTooLong);
+    refuse_if(v, series::any_invalid_day(days), Refusal::InvalidDay)
+}
+
+// The checks of the limbs that were found: 19, 22.
+fn check_limbs(found: Tally, room: usize) -> Verdict
+    requires { ⌜ found .limbs ≤ dayLimit ⌝ }
+    ensures { λ r. ⌜ Decides (tallyCauses found room) r ⌝ }
+{
+    let v = Verdict::Accepted;
+    let v = refuse_if(v, found.ratios == 0, Refusal::NoRatio);
+    refuse_if(v, room < 2 * found.limbs, Refusal::LimbListTooShort)
 }
 
 // The number of recession ratios and their median, for limbs of at least `shortest` days (document 01: L). The limb
@@ -153,28 +194,19 @@ pub fn ratios(shortest: u32, days: &[u32], limbs: &mut [u32]) -> Answer
     ensures answer { λ r. ⌜ outcomeOf r ≡ ratioOutcome shortest (now (days .entry)) (now (limbs .entry)) ⌝ }
     ensures limb_list { λ r. ⌜ LimbList (outcomeOf r) (countedLimbs shortest (now (days .entry))) (now (limbs .entry)) (now (limbs .exit)) ⌝ }
 {
-    if out_of_range(shortest) {
-        return Answer::Refused(Refusal::LimbDaysOutOfRange);
-    }
-    if series::too_long(days) {
-        return Answer::Refused(Refusal::DayListTooLong);
-    }
-    if series::any_invalid_day(days) {
-        return Answer::Refused(Refusal::InvalidDay);
+    let verdict = check(shortest, days);
+    if let Verdict::Refused(refusal) = verdict {
+        return Answer::Refused(refusal);
     }
     let limb_days = shortest as usize;
     let mut counts = [0u32; 10001];
     let found = tally_limbs(limb_days, days, &mut counts);
-    let count = found.ratios as u32;
-    let needed = 2 * found.limbs;
-    let room = limbs.len();
-    if count == 0 {
-        return Answer::Refused(Refusal::NoRatio);
-    }
-    if room < needed {
-        return Answer::Refused(Refusal::LimbListTooShort);
+    let verdict = check_limbs(found, limbs.len());
+    if let Verdict::Refused(refusal) = verdict {
+        return Answer::Refused(refusal);
     }
     list_limbs(limb_days, days, &mut *limbs);
+    let count = found.ratios as u32;
     let rank = (count + 1) / 2;
     let median = at_rank(&counts, rank);
     Answer::Ratios { count, median }

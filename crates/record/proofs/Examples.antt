@@ -6,11 +6,10 @@ use mathlib.Core.Path.{_≡_, refl}
 use mathlib.Core.List.{List, [], _∷_, _++_, map}
 use mathlib.Core.Option.{none, some}
 use lib.ListN.{replicate}
-use Rattle.series.specs.Units.{missingMark, dayOf}
+use Rattle.series.specs.Units.{missingMark, dayOf, within}
 use Rattle.series.specs.Causes.{Outcome, accepted, refused}
-use Rattle.record.specs.Entries.{number, kindOf, outside, entryCauses}
-use Rattle.record.specs.Reading.{Stated, viewOf, entryThen, daysFrom, firstDayOf, reading}
-use Rattle.record.specs.Reply.{listAfter}
+use Rattle.record.specs.Entries.{number, kindOf, entryCauses}
+use Rattle.record.specs.Call.{Stated, viewOf, entryThen, daysFrom, firstDayOf, reading, readLeaves}
 
 -- bytes, read into a list of `room` days, and what they come to
 record Example : Type 0 where
@@ -98,16 +97,16 @@ abbrev examples : List Example
 examples = accepted-ones ++ refused-ones ++ neighbours
 
 worked : map (λ x. reading (x .room) (x .bytes)) examples ≡ map (λ x. x .outcome) examples
-unfolding reading daysFrom entryThen entryCauses firstDayOf kindOf number outside
+unfolding reading daysFrom entryThen entryCauses firstDayOf kindOf number within
 worked = refl
 
 -- the four days in a longer list, whose rest stays; a refusal, which leaves the list; the view of the days
-written : listAfter (reading 6 four-days) (7 ∷ 7 ∷ 7 ∷ 7 ∷ 8 ∷ 9 ∷ []) ≡ 100 ∷ 200 ∷ missingMark ∷ 50 ∷ 8 ∷ 9 ∷ []
-unfolding reading daysFrom entryThen entryCauses firstDayOf kindOf number outside
+written : readLeaves (reading 6 four-days) (7 ∷ 7 ∷ 7 ∷ 7 ∷ 8 ∷ 9 ∷ []) ≡ 100 ∷ 200 ∷ missingMark ∷ 50 ∷ 8 ∷ 9 ∷ []
+unfolding reading daysFrom entryThen entryCauses firstDayOf kindOf number within
 written = refl
 
-left-alone : listAfter (reading 3 four-days) (7 ∷ 8 ∷ 9 ∷ []) ≡ 7 ∷ 8 ∷ 9 ∷ []
-unfolding reading daysFrom entryThen entryCauses firstDayOf kindOf number outside
+left-alone : readLeaves (reading 3 four-days) (7 ∷ 8 ∷ 9 ∷ []) ≡ 7 ∷ 8 ∷ 9 ∷ []
+unfolding reading daysFrom entryThen entryCauses firstDayOf kindOf number within
 left-alone = refl
 
 viewed : viewOf (record { firstDay = 0; days = 100 ∷ 200 ∷ missingMark ∷ 50 ∷ [] }) ≡ some 100 ∷ some 200 ∷ none ∷ some 50 ∷ []

@@ -1,11 +1,11 @@
-pub mod Sentences
+mod Sentences
 pub mod Accepting
 mod Examples
 mod Bytes
 mod Naming
 mod Tests
 mod Stores
-mod Entered
+mod EntryOutcomes
 mod Soundness
 mod Walk
 mod WritingWalk

@@ -8,7 +8,7 @@ use lib.Dec.{eqb}
 use Rattle.record.specs.declared.entry.Kind.{Kind}
 use Rattle.record.specs.declared.entry.Kind.the-variants.{Head, Flow, MissingDay, MissingDays, End, Unknown}
 use Rattle.record.specs.Entries.{kindOf, isUnknown, isHead, isEnd}
-use Rattle.record.specs.Steps.{statesDays}
+use Rattle.record.specs.Private.{statesDays}
 
 -- a kind that states days is known, no head and no end; and a known kind that is no head states days or is the end
 pub days-known : (k : Kind) → statesDays k ≡ true → (isUnknown k ≡ false) × (isHead k ≡ false) × (isEnd k ≡ false)

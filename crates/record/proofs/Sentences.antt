@@ -7,9 +7,9 @@ use mathlib.Core.Bool.{Bool, true, false}
 use mathlib.Core.List.{List, [], _∷_, _++_}
 use mathlib.Core.Option.{none, some}
 use lib.ListN.{length, drop}
-use Rattle.series.specs.Causes.{firstCause, accepted, refused}
+use Rattle.series.specs.Causes.{firstCause, accepted, refused, mapOutcome}
 use Rattle.record.specs.Entries.{Entry, entryOf, isEnd, bodyLength, statedDays, entryCauses}
-use Rattle.record.specs.Reading.{mapOutcome, entryThen, daysFrom}
+use Rattle.record.specs.Call.{entryThen, daysFrom}
 
 -- reading behind a body is reading the bytes behind it
 pub pass-over : (first : Bool) (n room over : ℕ) (bytes : List ℕ) → daysFrom first n room over bytes ≡ daysFrom first n room 0 (drop over bytes)

@@ -13,10 +13,10 @@ use Rattle.series.specs.Units.{dayLimit}
 use Rattle.series.specs.Causes.{firstCause}
 use Rattle.record.specs.declared.entry.Kind.{Kind}
 use Rattle.record.specs.Entries.{number, kindOf, isUnknown, isHead, isEnd, misplaced, bodyLength, outOfRange, daysOf, Entry, value, statedDays, entryCauses}
-use Rattle.record.specs.Steps.{entryAt, statesDays, PassedDays, Stepped}
+use Rattle.record.specs.Private.{entryAt, statesDays, PassedDays, Stepped}
 use Rattle.record.proofs.Naming.{days-known, days-or-end, other-bytes}
 use Rattle.record.proofs.Tests.{told₂, value-is, count-is, complete}
-use Rattle.record.proofs.Entered.{head-first, passed}
+use Rattle.record.proofs.EntryOutcomes.{head-first, passed}
 use Rattle.record.proofs.Walk.{Walked, begin, turn, body-inside}
 
 module _ (s : List ℕ) (at n space : ℕ) where

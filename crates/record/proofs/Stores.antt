@@ -7,8 +7,8 @@ use native.Mathlib.Numerals.{add-one}
 use native.Mathlib.Omega.{arith}
 use lib.ListN.{length, set, replicate, length-replicate, getD-replicate}
 use lib.Seq.{paste, paste-suc, length-paste, take-all, sets-eq}
+use Rattle.numbers.specs.Lists.{stored}
 use Rattle.series.specs.Units.{missingMark}
-use Rattle.record.specs.Steps.{stored}
 
 -- missing days, one a turn
 module _ (list : List ℕ) (from count : ℕ) (fits : from + count ≤ length list) where

@@ -13,14 +13,13 @@ use lib.ListN.{length, getD, take, drop, length-append, length-take, length-drop
 use lib.Seq.{drop-cons, drop-drop}
 use lib.Dec.{eqb}
 use Rattle.series.specs.Units.{dayLimit}
-use Rattle.series.specs.Causes.{firstCause, Outcome, accepted, refused}
+use Rattle.series.specs.Causes.{firstCause, Outcome, accepted, refused, mapOutcome}
 use Rattle.record.specs.declared.entry.Kind.{Kind}
 use Rattle.record.specs.Entries.{number, kindOf, isEnd, misplaced, bodyLength, Entry, statedDays, entryCauses}
-use Rattle.record.specs.Reading.{mapOutcome, daysFrom, firstDayOf, reading}
-use Rattle.record.specs.Reply.{replyOf}
-use Rattle.record.specs.Steps.{isAccepted, entryAt}
+use Rattle.record.specs.Call.{daysFrom, firstDayOf, reading, replyOf}
+use Rattle.record.specs.Private.{isAccepted, entryAt}
 use Rattle.record.proofs.Sentences.{no-entry, refused-entry, end-entry, other-entry}
-use Rattle.record.proofs.Entered.{head-first, Passed, passed}
+use Rattle.record.proofs.EntryOutcomes.{head-first, Passed, passed}
 
 -- days handed over before an outcome's own
 abbrev before : List ℕ → Outcome (List ℕ) → Outcome (List ℕ)

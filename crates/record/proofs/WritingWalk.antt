@@ -10,12 +10,13 @@ use lib.ListN.{length, drop, length-append, length-drop}
 use lib.Dec.{eqb}
 use lib.Seq.{take-at, drop-append-add, drop-drop}
 use mathlib.Core.Option.{none}
+use Rattle.numbers.specs.Lists.{stored}
 use Rattle.series.specs.Causes.{firstCause}
 use Rattle.record.specs.Entries.{isUnknown, isHead, isEnd, bodyLength, daysOf, value, statedDays, entryCauses}
-use Rattle.record.specs.Reading.{reading}
-use Rattle.record.specs.Reply.{listAfter}
-use Rattle.record.specs.Steps.{isAccepted, stored, entryAt}
-use Rattle.record.proofs.Entered.{head-first, passed}
+use Rattle.record.specs.Call.{firstDayOf, reading, readLeaves}
+use Rattle.record.specs.Private.{isAccepted, entryAt}
+use Rattle.record.proofs.EntryOutcomes.{head-first, passed}
+use Rattle.record.proofs.Accepting.{stored-days}
 use Rattle.record.proofs.Walk.{Walked, begin, begin-front, still-inside, still-no-cause, ended, turn, turn-front}
 
 pub record Written (s list : List ℕ) (at n : ℕ) (days : List ℕ) : Type 0 where
@@ -52,11 +53,12 @@ module _ {s list : List ℕ} {at n : ℕ} {days : List ℕ} (w : Written s list 
           so-far = rw (turn-front s room at n (w .walk) inside no-cause other b m) (h ∙ ap (λ d. stored d n (statedDays (entryAt s at))) (w .so-far) ∙ stored-next (w .walk .front) (statedDays (entryAt s at)) list (w .walk .counted) m);
         }
 
-    pub all-written : isEnd (entryAt s at .kind) ≡ true → days ≡ listAfter (reading room s) list
+    pub all-written : isEnd (entryAt s at .kind) ≡ true → days ≡ readLeaves (reading room s) list
     all-written end =
         w .so-far
         ∙ ap (λ k. w .walk .front ++ drop k list) (sym (w .walk .counted))
-        ∙ sym (ap (λ o. listAfter o list) (ended s room at n (w .walk) inside no-cause end))
+        ∙ sym (stored-days list (record { firstDay = firstDayOf s; days = w .walk .front }))
+        ∙ sym (ap (λ o. readLeaves o list) (ended s room at n (w .walk) inside no-cause end))
 
 -- behind the head, which states no days
 pub begin-days : (s list : List ℕ) → isAccepted (reading (length list) s) ≡ true → Written s list 5 0 list

@@ -1,10 +1,10 @@
 -- An entry of a record (document 01, "The record"): one byte of kind, then its body; and the causes that refuse it.
 use Prim.Native.Nat.{ℕ, _+_, _*_}
-use mathlib.Core.Bool.{Bool, true, false, cond, not, _||_, _&&_}
+use mathlib.Core.Bool.{Bool, true, false, cond, not, _&&_}
 use mathlib.Core.List.{List, [], _∷_}
 use lib.ListN.{length, take, drop, replicate}
 use lib.Dec.{ltb, eqb}
-use Rattle.series.specs.Units.{dayLimit, flowLimit, missingMark}
+use Rattle.series.specs.Units.{dayLimit, flowLimit, missingMark, within}
 use Rattle.series.specs.Causes.{Cause, cause}
 use Rattle.record.specs.declared.entry.Kind.{Kind}
 use Rattle.record.specs.declared.entry.Kind.the-variants.{Head, Flow, MissingDay, MissingDays, End, Unknown}
@@ -28,30 +28,24 @@ kindOf b =
     (cond (eqb b 9) End
     Unknown))))
 
+-- and back: the byte of a kind; 0 for what is none
+abbrev pub kindNumber : Kind → ℕ
+kindNumber Head = 1
+kindNumber Flow = 2
+kindNumber MissingDay = 3
+kindNumber MissingDays = 4
+kindNumber End = 9
+kindNumber Unknown = 0
+
 -- tests of a kind
 abbrev pub isUnknown : Kind → Bool
-isUnknown Head = false
-isUnknown Flow = false
-isUnknown MissingDay = false
-isUnknown MissingDays = false
-isUnknown End = false
-isUnknown Unknown = true
+isUnknown k = eqb (kindNumber k) 0
 
 abbrev pub isHead : Kind → Bool
-isHead Head = true
-isHead Flow = false
-isHead MissingDay = false
-isHead MissingDays = false
-isHead End = false
-isHead Unknown = false
+isHead k = eqb (kindNumber k) 1
 
 abbrev pub isEnd : Kind → Bool
-isEnd Head = false
-isEnd Flow = false
-isEnd MissingDay = false
-isEnd MissingDays = false
-isEnd End = true
-isEnd Unknown = false
+isEnd k = eqb (kindNumber k) 9
 
 -- how many bytes its body has
 abbrev pub bodyLength : Kind → ℕ
@@ -62,17 +56,13 @@ bodyLength MissingDays = 2
 bodyLength End = 4
 bodyLength Unknown = 0
 
--- a number that does not lie from low to high
-unfoldable pub outside : ℕ → ℕ → ℕ → Bool
-outside low high v = ltb v low || ltb high v
-
 -- the value of its body is outside its range: first day, flow, count of missing days; the end count has no range of its
 -- own, a kind without a body has no value
 abbrev pub outOfRange : Kind → ℕ → Bool
-outOfRange Head v = outside 0 firstDayLimit v
-outOfRange Flow v = outside 0 flowLimit v
+outOfRange Head v = not (within 0 firstDayLimit v)
+outOfRange Flow v = not (within 0 flowLimit v)
 outOfRange MissingDay v = false
-outOfRange MissingDays v = outside 1 65535 v
+outOfRange MissingDays v = not (within 1 65535 v)
 outOfRange End v = false
 outOfRange Unknown v = false
 

@@ -1,4 +1,3 @@
 pub mod Entries
-pub mod Reading
-pub mod Reply
-pub mod Steps
+pub mod Call
+pub mod Private

@@ -1,80 +1,67 @@
 // The checking walk: entry by entry, in document 01's order.
 use crate::Answer;
+use crate::entry::END;
+use crate::entry::HEAD;
 use crate::entry::Kind;
+use crate::entry::UNKNOWN;
 use crate::entry::four_bytes;
 use crate::entry::value_at;
 use series::DAY_LIMIT;
 use series::Refusal;
 use series::Verdict;
+use series::refuse_if;
 ghost use mathlib.Core.Path.{_≡_};
-ghost use mathlib.Core.Bool.{true};
+ghost use mathlib.Core.Bool.{true, _&&_};
 ghost use mathlib.Core.Option.{none};
-ghost use Prim.Native.Nat.{_≤_, _<_, min};
+ghost use Prim.Native.Nat.{_≤_, _<_};
 ghost use lib.ListN.{length, getD};
 ghost use lib.Dec.{eqb};
 ghost use Rattle.series.specs.Units.{dayLimit};
-ghost use Rattle.series.specs.Causes.{refusalOf, firstCause};
+ghost use Rattle.series.specs.Causes.{firstCause, Decides};
 ghost use Rattle.record.specs.Entries.{kindOf, misplaced, entryCauses};
-ghost use Rattle.record.specs.Reading.{reading};
-ghost use Rattle.record.specs.Reply.{answerOf, replyOf};
-ghost use Rattle.record.specs.Steps.{entryAt, statesDays, Stepped};
+ghost use Rattle.record.specs.Call.{reading, outcomeOf, replyOf};
+ghost use Rattle.record.specs.Private.{entryAt, statesDays, Stepped};
 
 // The head comes first and only there.
 fn is_misplaced(kind: Kind, first: bool) -> bool
     ensures { λ r. ⌜ r ≡ misplaced first kind ⌝ }
 {
     if first {
-        return !kind.is_head();
+        return !kind.is(HEAD);
     }
-    kind.is_head()
+    kind.is(HEAD)
 }
 
-// The checks of the entry at `at`, behind `counted` days, for a list of `room` days: kind, place, body complete, value,
-// total days, list space; at the end entry its count, then bytes behind it.
+fn both(a: bool, b: bool) -> bool
+    ensures { λ r. ⌜ r ≡ (a && b) ⌝ }
+{
+    a && b
+}
+
+// The checks of the entry at `at`, behind `counted` days, for a list of `room` days: kind, place, body complete; and, of
+// one that is complete, value, total days, list space, and at the end entry its count, then bytes behind it.
 fn check_entry(bytes: &[u8], at: usize, counted: usize, room: usize) -> Verdict
     requires { ⌜ (at < length (now bytes)) × (counted ≤ dayLimit) × (counted ≤ room) ⌝ }
-    ensures { λ r. ⌜ refusalOf r ≡ firstCause (entryCauses (eqb at 0) counted room (entryAt (now (bytes .entry)) at)) ⌝ }
+    ensures { λ r. ⌜ Decides (entryCauses (eqb at 0) counted room (entryAt (now (bytes .entry)) at)) r ⌝ }
 {
+    let v = Verdict::Accepted;
     let kind = Kind::of(bytes[at]);
-    if kind.is_unknown() {
-        return Verdict::Refused(Refusal::UnknownKind);
-    }
-    if is_misplaced(kind, at == 0) {
-        return Verdict::Refused(Refusal::MisplacedHead);
-    }
     let next = at + 1 + kind.body_length();
-    if bytes.len() < next {
-        return Verdict::Refused(Refusal::Truncated);
+    let v = refuse_if(v, kind.is(UNKNOWN), Refusal::UnknownKind);
+    let v = refuse_if(v, is_misplaced(kind, at == 0), Refusal::MisplacedHead);
+    let v = refuse_if(v, bytes.len() < next, Refusal::Truncated);
+    if let Verdict::Refused(refusal) = v {
+        return Verdict::Refused(refusal);
     }
     let value = value_at(bytes, at + 1, kind);
-    if kind.is_out_of_range(value) {
-        return Verdict::Refused(Refusal::ValueOutOfRange);
-    }
     let added = kind.day_count(value);
-    if DAY_LIMIT - counted < added {
-        return Verdict::Refused(Refusal::TooManyDays);
-    }
-    if room - counted < added {
-        return Verdict::Refused(Refusal::DayListTooShort);
-    }
-    if !kind.is_end() {
-        return Verdict::Accepted;
-    }
-    let stated = value as usize;
-    if stated != counted {
-        return Verdict::Refused(Refusal::WrongEndCount);
-    }
-    if next < bytes.len() {
-        return Verdict::Refused(Refusal::BytesAfterEnd);
-    }
-    Verdict::Accepted
-}
-
-// The most days that a record may state: as many as the list and as any record may have.
-fn day_space(room: usize) -> usize
-    ensures { λ r. ⌜ r ≡ min room dayLimit ⌝ }
-{
-    if room < DAY_LIMIT { room } else { DAY_LIMIT }
+    let end = kind.is(END);
+    let wrong = value as usize != counted;
+    let v = refuse_if(v, kind.is_out_of_range(value), Refusal::ValueOutOfRange);
+    let v = refuse_if(v, DAY_LIMIT - counted < added, Refusal::TooManyDays);
+    let v = refuse_if(v, room - counted < added, Refusal::DayListTooShort);
+    let v = refuse_if(v, both(end, wrong), Refusal::WrongEndCount);
+    refuse_if(v, both(end, next < bytes.len()), Refusal::BytesAfterEnd)
 }
 
 // A step of the checking walk: the bytes of an entry of days that passes, and its days; no bytes where the walk ends.
@@ -125,9 +112,9 @@ fn next_step(bytes: &[u8], at: usize, counted: usize, space: usize) -> Step
 // Checks a record behind its head and counts its days.
 fn check_days(bytes: &[u8], room: usize) -> Answer
     requires { ⌜ (0 < length (now bytes)) × (firstCause (entryCauses true 0 room (entryAt (now bytes) 0)) ≡ none) ⌝ }
-    ensures { λ r. ⌜ answerOf r ≡ replyOf (reading room (now (bytes .entry))) ⌝ }
+    ensures { λ r. ⌜ outcomeOf r ≡ replyOf (reading room (now (bytes .entry))) ⌝ }
 {
-    let space = day_space(room);
+    let space = numbers::least(room, DAY_LIMIT);
     let mut at = 5;
     let mut counted = 0;
     while at < bytes.len() {
@@ -151,7 +138,7 @@ fn check_days(bytes: &[u8], room: usize) -> Answer
 
 // Checks a whole record and counts its days.
 pub(crate) fn check(bytes: &[u8], room: usize) -> Answer
-    ensures { λ r. ⌜ answerOf r ≡ replyOf (reading room (now (bytes .entry))) ⌝ }
+    ensures { λ r. ⌜ outcomeOf r ≡ replyOf (reading room (now (bytes .entry))) ⌝ }
 {
     if bytes.len() == 0 {
         return Answer::Refused(Refusal::Truncated);

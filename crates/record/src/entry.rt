@@ -4,12 +4,19 @@ ghost use mathlib.Core.Path.{_≡_};
 ghost use mathlib.Core.Bool.{false};
 ghost use Prim.Native.Nat.{_+_, _≤_, _<_};
 ghost use lib.ListN.{length, take, drop};
-ghost use Rattle.record.specs.Entries.{number, kindOf, isUnknown, isHead, isEnd, bodyLength, outside, outOfRange, daysOf};
+ghost use lib.Dec.{eqb};
+ghost use Rattle.record.specs.Entries.{number, kindOf, kindNumber, isUnknown, isHead, bodyLength, outOfRange, daysOf};
 
 // The largest first day, as days since 1 January 1900.
 const FIRST_DAY_LIMIT: u32 = 99_999;
 // The most missing days of one entry.
 const GAP_LIMIT: u32 = 65_535;
+// The bytes of a head, of an end, and for what is no kind.
+pub(crate) const HEAD: u8 = 1;
+
+pub(crate) const END: u8 = 9;
+
+pub(crate) const UNKNOWN: u8 = 0;
 
 // The kinds of entry, in document 01's order.
 pub(crate) enum Kind {
@@ -59,43 +66,25 @@ impl Kind {
         Kind::End
     }
 
-    pub(crate) fn is_unknown(self) -> bool
-        ensures { λ r. ⌜ r ≡ isUnknown self ⌝ }
+    // The byte that names it; 0 for what is no kind.
+    fn number(self) -> u8
+        ensures { λ r. ⌜ r ≡ kindNumber self ⌝ }
     {
         match self {
-            Kind::Head => false,
-            Kind::Flow => false,
-            Kind::MissingDay => false,
-            Kind::MissingDays => false,
-            Kind::End => false,
-            Kind::Unknown => true,
+            Kind::Head => 1,
+            Kind::Flow => 2,
+            Kind::MissingDay => 3,
+            Kind::MissingDays => 4,
+            Kind::End => 9,
+            Kind::Unknown => 0,
         }
     }
 
-    pub(crate) fn is_head(self) -> bool
-        ensures { λ r. ⌜ r ≡ isHead self ⌝ }
+    // It is the kind of a byte, such as HEAD.
+    pub(crate) fn is(self, byte: u8) -> bool
+        ensures { λ r. ⌜ r ≡ eqb (kindNumber self) byte ⌝ }
     {
-        match self {
-            Kind::Head => true,
-            Kind::Flow => false,
-            Kind::MissingDay => false,
-            Kind::MissingDays => false,
-            Kind::End => false,
-            Kind::Unknown => false,
-        }
-    }
-
-    pub(crate) fn is_end(self) -> bool
-        ensures { λ r. ⌜ r ≡ isEnd self ⌝ }
-    {
-        match self {
-            Kind::Head => false,
-            Kind::Flow => false,
-            Kind::MissingDay => false,
-            Kind::MissingDays => false,
-            Kind::End => true,
-            Kind::Unknown => false,
-        }
+        self.number() == byte
     }
 
     // How many bytes its body has.
@@ -117,10 +106,10 @@ impl Kind {
         ensures { λ r. ⌜ r ≡ outOfRange self value ⌝ }
     {
         match self {
-            Kind::Head => is_outside(value, 0, FIRST_DAY_LIMIT),
-            Kind::Flow => is_outside(value, 0, FLOW_LIMIT),
+            Kind::Head => !series::within(0, FIRST_DAY_LIMIT, value),
+            Kind::Flow => !series::within(0, FLOW_LIMIT, value),
             Kind::MissingDay => false,
-            Kind::MissingDays => is_outside(value, 1, GAP_LIMIT),
+            Kind::MissingDays => !series::within(1, GAP_LIMIT, value),
             Kind::End => false,
             Kind::Unknown => false,
         }
@@ -139,16 +128,6 @@ impl Kind {
             Kind::Unknown => 0,
         }
     }
-}
-
-// The value does not lie from low to high.
-fn is_outside(value: u32, low: u32, high: u32) -> bool
-    ensures { λ r. ⌜ r ≡ outside low high value ⌝ }
-{
-    if value < low {
-        return true;
-    }
-    high < value
 }
 
 // A byte as a number.

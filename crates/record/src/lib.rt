@@ -9,9 +9,8 @@ use series::Refusal;
 use writing::write_days;
 ghost use mathlib.Core.Path.{_≡_};
 ghost use lib.ListN.{length};
-ghost use Rattle.record.specs.Reading.{reading};
-ghost use Rattle.record.specs.Reply.{answerOf, replyOf, listAfter};
-ghost use Rattle.record.specs.Steps.{isAccepted};
+ghost use Rattle.record.specs.Call.{reading, outcomeOf, replyOf, readLeaves};
+ghost use Rattle.record.specs.Private.{isAccepted};
 
 // What reading gives: the first day, as days since 1 January 1900, and the number of days; or the refusal.
 pub enum Answer {
@@ -21,7 +20,7 @@ pub enum Answer {
 
 impl Answer {
     fn is_stated(self) -> bool
-        ensures { λ r. ⌜ r ≡ isAccepted (answerOf self) ⌝ }
+        ensures { λ r. ⌜ r ≡ isAccepted (outcomeOf self) ⌝ }
     {
         match self {
             Answer::Stated { .. } => true,
@@ -33,8 +32,8 @@ impl Answer {
 // Reads a record into the day list. The first walk checks all bytes and counts the days; the second stores them, and runs
 // only after the whole record has passed.
 pub fn read(bytes: &[u8], days: &mut [u32]) -> Answer
-    ensures answer { λ r. ⌜ answerOf r ≡ replyOf (reading (length (now (days .entry))) (now (bytes .entry))) ⌝ }
-    ensures list { λ _. ⌜ now (days .exit) ≡ listAfter (reading (length (now (days .entry))) (now (bytes .entry))) (now (days .entry)) ⌝ }
+    ensures answer { λ r. ⌜ outcomeOf r ≡ replyOf (reading (length (now (days .entry))) (now (bytes .entry))) ⌝ }
+    ensures list { λ _. ⌜ now (days .exit) ≡ readLeaves (reading (length (now (days .entry))) (now (bytes .entry))) (now (days .entry)) ⌝ }
 {
     let answer = check(bytes, days.len());
     if answer.is_stated() {

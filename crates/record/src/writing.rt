@@ -1,4 +1,5 @@
 // The writing walk, over a record that has passed.
+use crate::entry::END;
 use crate::entry::Kind;
 use crate::entry::value_at;
 use series::MISSING;
@@ -6,11 +7,11 @@ ghost use mathlib.Core.Path.{_≡_};
 ghost use mathlib.Core.Bool.{true};
 ghost use Prim.Native.Nat.{_+_, _≤_};
 ghost use lib.ListN.{length, replicate};
+ghost use Rattle.numbers.specs.Lists.{stored};
 ghost use Rattle.series.specs.Units.{missingMark};
 ghost use Rattle.record.specs.Entries.{daysOf};
-ghost use Rattle.record.specs.Reading.{reading};
-ghost use Rattle.record.specs.Reply.{listAfter};
-ghost use Rattle.record.specs.Steps.{stored, isAccepted};
+ghost use Rattle.record.specs.Call.{reading, readLeaves};
+ghost use Rattle.record.specs.Private.{isAccepted};
 
 // Stores missing days from position `from` on.
 fn put_missing(days: &mut [u32], from: usize, count: usize)
@@ -48,13 +49,13 @@ fn put(days: &mut [u32], from: usize, kind: Kind, value: u32)
 // Stores the days of a record from the list's start on. They stand behind its head.
 pub(crate) fn write_days(bytes: &[u8], days: &mut [u32])
     requires { ⌜ isAccepted (reading (length (now days)) (now bytes)) ≡ true ⌝ }
-    ensures { λ _. ⌜ now (days .exit) ≡ listAfter (reading (length (now (days .entry))) (now (bytes .entry))) (now (days .entry)) ⌝ }
+    ensures { λ _. ⌜ now (days .exit) ≡ readLeaves (reading (length (now (days .entry))) (now (bytes .entry))) (now (days .entry)) ⌝ }
 {
     let mut at = 5;
     let mut counted = 0;
     loop {
         let kind = Kind::behind_head(bytes[at]);
-        if kind.is_end() {
+        if kind.is(END) {
             return;
         }
         let value = value_at(bytes, at + 1, kind);

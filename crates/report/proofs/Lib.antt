@@ -1,8 +1,6 @@
-pub mod Sentences
+mod Sentences
 mod Numerals
-mod Refusals
 mod Lengths
-mod Days
 mod Paging
 mod Running
 mod Examples

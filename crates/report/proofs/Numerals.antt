@@ -2,14 +2,13 @@
 -- Assumes nothing.
 use Prim.Native.Nat.{ℕ, zero, suc, _+_, _-_, _*_, _/_, _%_, _^_, _≤_, _<_}
 use mathlib.Core.Path.{_≡_, refl, sym, _∙_, ap, subst}
-use mathlib.Core.Bool.{Bool, true, false}
 use mathlib.Core.List.{List, [], _∷_, _++_}
-use native.Mathlib.Nat.{le-refl, mul-comm, mul-assoc, div-add-mod, mul-add-mod-self-left, mod-eq-of-lt, mod-lt, mod-one, pow-suc, one-le-pow}
+use native.Mathlib.Nat.{lt-of-not-le, mul-comm, mul-assoc, div-add-mod, mul-add-mod-self-left, mod-eq-of-lt, mod-lt, mod-one, pow-suc, one-le-pow}
 use native.Mathlib.Numerals.{sub-one}
+use native.Mathlib.Decide.{decLe}
 use native.Mathlib.Omega.{arith}
-use lib.Dec.{ltb}
 use lib.ListN.{length, getD, length-append}
-use borrow.Author.Tests.{lt-ltb, le-ltb, ltb-true, ltb-false}
+use borrow.Author.Tests.{lt-ltb, le-ltb}
 use Rattle.report.specs.Decimal.{digit, digitsWithin, decimal, lastDigits, readOn, AllDigits, DigitsOf, DecimalOf}
 
 -- a number below ten, and any other, in one division more
@@ -26,13 +25,11 @@ within-more k n h = simp (le-ltb n 10 h)
 enough : (k j n : ℕ) → n ≤ k → n ≤ j → digitsWithin k n ≡ digitsWithin j n
 enough zero j n h g = within-below zero n (omega arith) ∙ sym (within-below j n (omega arith))
 enough (suc k) zero n h g = within-below (suc k) n (omega arith) ∙ sym (within-below zero n (omega arith))
-enough (suc k) (suc j) n h g = by-test (ltb n 10) refl (λ m. enough k j (n / 10) (omega arith) (omega arith))
-  where
-    by-test : (b : Bool) → ltb n 10 ≡ b → (10 ≤ n → digitsWithin k (n / 10) ≡ digitsWithin j (n / 10)) → digitsWithin (suc k) n ≡ digitsWithin (suc j) n
-    by-test true e rest = let m = ltb-true n 10 e in within-below (suc k) n m ∙ sym (within-below (suc j) n m)
-    by-test false e rest =
-        let m = ltb-false n 10 e in
-        within-more k n m ∙ ap (λ l. l ++ digit (n % 10) ∷ []) (rest m) ∙ sym (within-more j n m)
+enough (suc k) (suc j) n h g =
+    elim (decLe 10 n) [
+      | yes m ↦ within-more k n m ∙ ap (λ l. l ++ digit (n % 10) ∷ []) (enough k j (n / 10) (omega arith) (omega arith)) ∙ sym (within-more j n m)
+      | no m ↦ let b = lt-of-not-le m in within-below (suc k) n b ∙ sym (within-below (suc j) n b)
+    ]
 
 pub decimal-below : (n : ℕ) → n < 10 → digit n ∷ [] ≡ decimal n
 unfolding decimal
@@ -57,13 +54,11 @@ last-more n (suc k) h = rw (sub-one (suc k))
 -- how many they are
 pub decimal-length : (k n : ℕ) → n < 10 ^ suc k → length (decimal n) ≤ suc k
 decimal-length zero n h = omega (arith, ap length (decimal-below n h))
-decimal-length (suc k) n h = by-test (ltb n 10) refl (decimal-length k (n / 10))
-  where
-    by-test : (b : Bool) → ltb n 10 ≡ b → (n / 10 < 10 ^ suc k → length (decimal (n / 10)) ≤ suc k) → length (decimal n) ≤ suc (suc k)
-    by-test true e rest = omega (arith, ap length (decimal-below n (ltb-true n 10 e)))
-    by-test false e rest =
-        let r = rest (omega (arith, pow-suc 10 (suc k))) in
-        omega (arith, ap length (decimal-more n (ltb-false n 10 e)), length-append (decimal (n / 10)) (digit (n % 10) ∷ []))
+decimal-length (suc k) n h =
+    elim (decLe 10 n) [
+      | yes m ↦ omega (arith, decimal-length k (n / 10) (omega (arith, pow-suc 10 (suc k))), ap length (decimal-more n m), length-append (decimal (n / 10)) (digit (n % 10) ∷ []))
+      | no m ↦ omega (arith, ap length (decimal-below n (lt-of-not-le m)))
+    ]
 
 pub last-length : (k n : ℕ) → length (lastDigits k n) ≡ k
 unfolding lastDigits
@@ -97,21 +92,14 @@ one-digit : (n : ℕ) → n < 10 → DecimalOf n (digit n ∷ [])
 unfolding readOn
 one-digit n h = record { says = record { value = omega arith; digits = ((omega arith, omega arith), tt) }; no-zero-first = λ p. omega arith }
 
-says-within : (k n : ℕ) → n ≤ k → DecimalOf n (decimal n)
+-- a number in decimal: its digits, read in base ten, say the number, with no zero before the first
+pub says-within : (k n : ℕ) → n ≤ k → DecimalOf n (decimal n)
 says-within zero n h = subst (DecimalOf n) (decimal-below n (omega arith)) (one-digit n (omega arith))
-says-within (suc k) n h = by-test (ltb n 10) refl (says-within k (n / 10))
-  where
-    by-test : (b : Bool) → ltb n 10 ≡ b → (n / 10 ≤ k → DecimalOf (n / 10) (decimal (n / 10))) → DecimalOf n (decimal n)
-    by-test true e rest = let m = ltb-true n 10 e in subst (DecimalOf n) (decimal-below n m) (one-digit n m)
-    by-test false e rest =
-        let m = ltb-false n 10 e in
-        let r = rest (omega arith) in
-        subst (DecimalOf n) (decimal-more n m)
-        (record { says = more-digits (decimal (n / 10)) (n % 10) (omega arith) (omega arith) (r .says); no-zero-first = λ p. first-kept (decimal (n / 10)) (digit (n % 10) ∷ []) (r .no-zero-first (omega arith)) })
-
--- THE SENTENCE on a number in decimal: its digits, read in base ten, say the number, with no zero before the first
-pub decimal-says : (n : ℕ) → DecimalOf n (decimal n)
-decimal-says n = says-within n n (le-refl n)
+says-within (suc k) n h =
+    elim (decLe 10 n) [
+      | yes m ↦ let r = says-within k (n / 10) (omega arith) in subst (DecimalOf n) (decimal-more n m) (record { says = more-digits _ (n % 10) (omega arith) (omega arith) (r .says); no-zero-first = λ p. first-kept (decimal (n / 10)) (digit (n % 10) ∷ []) (r .no-zero-first (omega arith)) })
+      | no m ↦ let b = lt-of-not-le m in subst (DecimalOf n) (decimal-below n b) (one-digit n b)
+    ]
 
 -- the last digits of n by those of n / 10, where P is a power of ten
 remainder : (n P : ℕ) → 0 < P → n % (P * 10) ≡ 10 * (n / 10 % P) + n % 10
@@ -122,8 +110,8 @@ remainder n P h =
     ap (λ x. x % (P * 10)) split ∙ mul-add-mod-self-left (P * 10) (m / P) (10 * (m % P) + n % 10) ∙ mod-eq-of-lt (omega (arith, mod-lt m h))
 
 -- and on its last digits: they say the number's remainder by a power of ten, with their zeros as many as asked
-pub last-say : (k n : ℕ) → DigitsOf (n % 10 ^ k) (lastDigits k n)
+pub last-digits : (k n : ℕ) → DigitsOf (n % 10 ^ k) (lastDigits k n)
 unfolding lastDigits readOn
-last-say zero n = record { value = sym (mod-one n); digits = tt }
-last-say (suc k) n =
-    more-digits (lastDigits k (n / 10)) (n % 10) (omega arith) (ap (λ P. n % P) (pow-suc 10 k) ∙ remainder n (10 ^ k) (one-le-pow k 10 (omega arith))) (last-say k (n / 10))
+last-digits zero n = record { value = sym (mod-one n); digits = tt }
+last-digits (suc k) n =
+    more-digits (lastDigits k (n / 10)) (n % 10) (omega arith) (ap (λ P. n % P) (pow-suc 10 k) ∙ remainder n (10 ^ k) (one-le-pow k 10 (omega arith))) (last-digits k (n / 10))

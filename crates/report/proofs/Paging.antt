@@ -9,7 +9,7 @@ use native.Mathlib.Omega.{arith}
 use lib.ListN.{length, getD, drop, set, length-append}
 use lib.Seq.{drop-cons, set-append-seam, append-snoc}
 use borrow.Author.Tests.{lt-ltb, le-ltb}
-use Rattle.report.specs.Page.{Page, page, withCharacter, withText, Writes}
+use Rattle.report.specs.Private.{Page, page, withCharacter, withText, Writes}
 
 module _ (buffer : List ℕ) (at c : ℕ) where
   pub put-here : at < length buffer → Writes (c ∷ []) (page buffer at) (page (set buffer at c) (at + 1))

@@ -8,11 +8,11 @@ use lib.ListN.{length}
 use lib.Dec.{ltb}
 use Rattle.series.specs.Units.{dayOf}
 use Rattle.series.specs.Causes.{Outcome, accepted, refused}
-use Rattle.record.specs.Reading.{Stated, reading}
+use Rattle.record.specs.Call.{Stated, reading}
 use Rattle.filter.specs.declared.Setting.{Setting}
-use Rattle.filter.specs.Filtering.{filteredList}
+use Rattle.filter.specs.Call.{filteredList}
 use Rattle.totals.specs.declared.Totals.{Totals}
-use Rattle.totals.specs.Totalling.{totalsOutcome}
+use Rattle.totals.specs.Call.{totalsOutcome}
 use Rattle.report.specs.Decimal.{characters, decimal, fixedPoint}
 
 -- "uses method 1, p 9250" (its row has no q)

@@ -5,7 +5,7 @@ ghost use mathlib.Core.Path.{_≡_};
 ghost use mathlib.Core.List.{_++_};
 ghost use Prim.Native.Nat.{_<_};
 ghost use Rattle.report.specs.Decimal.{characters, digit as Decimal·digit, decimal as Decimal·decimal, lastDigits};
-ghost use Rattle.report.specs.Page.{page, Writes};
+ghost use Rattle.report.specs.Private.{page, Writes};
 
 // The character of a digit.
 fn digit(d: u64) -> u8
@@ -16,7 +16,7 @@ fn digit(d: u64) -> u8
 }
 
 // A number: the digits of the number divided by ten, and then the last.
-pub fn decimal(text: &mut [u8], at: usize, number: u64) -> usize
+pub(crate) fn decimal(text: &mut [u8], at: usize, number: u64) -> usize
     ensures { λ r. ⌜ Writes (Decimal·decimal number) (page (now (text .entry)) at) (page (now (text .exit)) r) ⌝ }
 {
     if number < 10 {
@@ -38,7 +38,7 @@ fn last_digits(text: &mut [u8], at: usize, count: u64, number: u64) -> usize
 }
 
 // A whole part, a point, and the last digits of a number.
-pub fn with_point(text: &mut [u8], at: usize, whole: u64, count: u64, number: u64) -> usize
+pub(crate) fn with_point(text: &mut [u8], at: usize, whole: u64, count: u64, number: u64) -> usize
     ensures { λ r. ⌜ Writes (Decimal·decimal whole ++ characters "." ++ lastDigits count number) (page (now (text .entry)) at) (page (now (text .exit)) r) ⌝ }
 {
     let end = decimal(text, at, whole);

@@ -14,12 +14,12 @@ ghost use mathlib.Core.Path.{_≡_};
 ghost use mathlib.Core.List.{_++_};
 ghost use Prim.Native.Nat.{_≤_};
 ghost use lib.ListN.{length, drop};
-ghost use Rattle.record.specs.Reading.{reading};
-ghost use Rattle.totals.specs.Totalling.{outcomeOf};
+ghost use Rattle.record.specs.Call.{reading};
+ghost use Rattle.totals.specs.Call.{outcomeOf};
 ghost use Rattle.accuracy.specs.declared.Choice.the-variants.{Filter};
 ghost use Rattle.report.specs.Decimal.{characters};
 ghost use Rattle.report.specs.Text.{setting, dayLines, indexLine, recordText, separateText};
-ghost use Rattle.report.specs.Page.{page, Writes};
+ghost use Rattle.report.specs.Private.{page, Writes};
 
 // The most bytes of a record.
 pub const RECORD_LIMIT: usize = 32_768;

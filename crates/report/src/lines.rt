@@ -4,16 +4,14 @@ use crate::decimal::with_point;
 use crate::page::put_text;
 use series::Refusal;
 ghost use mathlib.Core.Path.{_≡_};
-ghost use mathlib.Core.List.{_++_};
 ghost use mathlib.Core.Option.{some};
 ghost use Prim.Native.Nat.{_≤_};
 ghost use lib.ListN.{length};
 ghost use Rattle.series.specs.Units.{dayOf};
 ghost use Rattle.series.specs.Causes.{refusalNumber, refused};
-ghost use Rattle.totals.specs.Totalling.{outcomeOf};
-ghost use Rattle.report.specs.Decimal.{characters, decimal as Decimal·decimal};
+ghost use Rattle.totals.specs.Call.{outcomeOf};
 ghost use Rattle.report.specs.Text.{dayLine, dayLines, indexLine, recordText};
-ghost use Rattle.report.specs.Page.{page, Writes};
+ghost use Rattle.report.specs.Private.{page, Writes};
 
 // The line of a present day.
 fn present_day(text: &mut [u8], at: usize, day: u64, flow: u32, base: u64) -> usize
@@ -27,26 +25,25 @@ fn present_day(text: &mut [u8], at: usize, day: u64, flow: u32, base: u64) -> us
     put_text(text, end, b"\n")
 }
 
-// The line of a missing day.
-fn missing_day(text: &mut [u8], at: usize, day: u64) -> usize
-    ensures { λ r. ⌜ Writes (Decimal·decimal day ++ characters " missing\n") (page (now (text .entry)) at) (page (now (text .exit)) r) ⌝ }
-{
-    let end = decimal(text, at, day);
-    put_text(text, end, b" missing\n")
-}
-
 // The line of a day.
 fn day_line(text: &mut [u8], at: usize, day: u64, flow: u32, base: u64) -> usize
     ensures { λ r. ⌜ Writes (dayLine day (dayOf flow) base) (page (now (text .entry)) at) (page (now (text .exit)) r) ⌝ }
 {
     if flow == series::MISSING {
-        return missing_day(text, at, day);
+        let end = decimal(text, at, day);
+        return put_text(text, end, b" missing\n");
     }
     present_day(text, at, day, flow, base)
 }
 
 // A line for each day of a list.
-pub fn day_lines(text: &mut [u8], at: usize, first_day: u32, days: &[u32], base: &[u64]) -> usize
+pub(crate) fn day_lines(
+    text: &mut [u8],
+    at: usize,
+    first_day: u32,
+    days: &[u32],
+    base: &[u64],
+) -> usize
     requires { ⌜ (length (now days) ≤ 2048) × (length (now base) ≡ length (now days)) ⌝ }
     ensures { λ r. ⌜ Writes (dayLines «first_day» (now (days .entry)) (now (base .entry))) (page (now (text .entry)) at) (page (now (text .exit)) r) ⌝ }
 {
@@ -61,7 +58,7 @@ pub fn day_lines(text: &mut [u8], at: usize, first_day: u32, days: &[u32], base:
 }
 
 // The last line.
-pub fn index_line(text: &mut [u8], at: usize, totals: totals::Answer) -> usize
+pub(crate) fn index_line(text: &mut [u8], at: usize, totals: totals::Answer) -> usize
     ensures { λ r. ⌜ Writes (indexLine (outcomeOf totals)) (page (now (text .entry)) at) (page (now (text .exit)) r) ⌝ }
 {
     match totals {
@@ -76,7 +73,7 @@ pub fn index_line(text: &mut [u8], at: usize, totals: totals::Answer) -> usize
 }
 
 // The one line of a refusal.
-pub fn refused_line(text: &mut [u8], refusal: Refusal) -> usize
+pub(crate) fn refused_line(text: &mut [u8], refusal: Refusal) -> usize
     ensures { λ r. ⌜ Writes (recordText (refused (refusalNumber refusal))) (page (now (text .entry)) 0) (page (now (text .exit)) r) ⌝ }
 {
     let end = put_text(text, 0, b"refused ");

@@ -1,9 +1,9 @@
 // Writing into a lent buffer, character by character: each writer takes the position of the next character and answers
 // the one behind what it wrote. Nothing is written behind the buffer's end.
 ghost use mathlib.Core.List.{[], _∷_};
-ghost use Rattle.report.specs.Page.{page, Writes};
+ghost use Rattle.report.specs.Private.{page, Writes};
 
-pub fn put(text: &mut [u8], at: usize, character: u8) -> usize
+pub(crate) fn put(text: &mut [u8], at: usize, character: u8) -> usize
     ensures { λ r. ⌜ Writes (character ∷ []) (page (now (text .entry)) at) (page (now (text .exit)) r) ⌝ }
 {
     if at < text.len() {
@@ -13,7 +13,7 @@ pub fn put(text: &mut [u8], at: usize, character: u8) -> usize
     at
 }
 
-pub fn put_text(text: &mut [u8], at: usize, characters: &[u8]) -> usize
+pub(crate) fn put_text(text: &mut [u8], at: usize, characters: &[u8]) -> usize
     ensures { λ r. ⌜ Writes (now (characters .entry)) (page (now (text .entry)) at) (page (now (text .exit)) r) ⌝ }
 {
     let mut end = at;

@@ -6,36 +6,28 @@ use filter::Step;
 use minima::LineSetting;
 
 pub fn reading(bytes: &[u8], days: &mut [u32]) {
-    show::text(b"read");
-    show::number(bytes.len() as u64);
+    show::named(b"read", bytes.len() as u64);
     let answer = record::read(bytes, days);
     match answer {
-        record::Answer::Refused(refusal) => {
-            show::refusal(refusal);
-        }
+        record::Answer::Refused(refusal) => show::refusal(refusal),
         record::Answer::Stated {
             first_day,
             day_count,
         } => {
-            show::text(b": stated");
-            show::number(first_day as u64);
+            show::named(b": stated", first_day as u64);
             show::number(day_count as u64);
         }
     }
     show::day_list(days);
-    show::end_of_line();
 }
 
 pub fn totals(days: &[u32], base: &[u64]) {
     show::text(b"totals");
     let answer = totals::total(days, base);
     match answer {
-        totals::Answer::Refused(refusal) => {
-            show::refusal(refusal);
-        }
+        totals::Answer::Refused(refusal) => show::refusal(refusal),
         totals::Answer::Summed(t) => {
-            show::text(b": summed");
-            show::number(t.days as u64);
+            show::named(b": summed", t.days as u64);
             show::number(t.flow);
             show::number(t.base);
             show::number(t.quick);
@@ -46,8 +38,7 @@ pub fn totals(days: &[u32], base: &[u64]) {
 }
 
 pub fn filter(method: u32, p: u32, q: u32, passes: u32, days: &[u32], base: &mut [u64]) {
-    show::text(b"filter");
-    show::number(method as u64);
+    show::named(b"filter", method as u64);
     show::number(p as u64);
     show::number(q as u64);
     show::number(passes as u64);
@@ -55,7 +46,6 @@ pub fn filter(method: u32, p: u32, q: u32, passes: u32, days: &[u32], base: &mut
     let verdict = filter::filter(setting, passes, days, base);
     show::verdict(verdict);
     show::base_list(base);
-    show::end_of_line();
 }
 
 pub fn filter_and_totals(method: u32, p: u32, q: u32, passes: u32, days: &[u32], base: &mut [u64]) {
@@ -64,14 +54,12 @@ pub fn filter_and_totals(method: u32, p: u32, q: u32, passes: u32, days: &[u32],
 }
 
 pub fn line(block_days: u32, factor: u32, days: &[u32], base: &mut [u64]) {
-    show::text(b"line");
-    show::number(block_days as u64);
+    show::named(b"line", block_days as u64);
     show::number(factor as u64);
     let setting = LineSetting { block_days, factor };
     let verdict = minima::line(setting, days, base);
     show::verdict(verdict);
     show::base_list(base);
-    show::end_of_line();
 }
 
 pub fn line_and_totals(block_days: u32, factor: u32, days: &[u32], base: &mut [u64]) {
@@ -80,21 +68,16 @@ pub fn line_and_totals(block_days: u32, factor: u32, days: &[u32], base: &mut [u
 }
 
 pub fn ratios(limb_days: u32, days: &[u32], limbs: &mut [u32]) {
-    show::text(b"ratios");
-    show::number(limb_days as u64);
+    show::named(b"ratios", limb_days as u64);
     let answer = recession::ratios(limb_days, days, limbs);
     match answer {
-        recession::Answer::Refused(refusal) => {
-            show::refusal(refusal);
-        }
+        recession::Answer::Refused(refusal) => show::refusal(refusal),
         recession::Answer::Ratios { count, median } => {
-            show::text(b": found");
-            show::number(count as u64);
+            show::named(b": found", count as u64);
             show::number(median as u64);
         }
     }
     show::limb_list(limbs);
-    show::end_of_line();
 }
 
 // One step; a refusal is printed.
@@ -134,8 +117,7 @@ pub fn steps(method: u32, p: u32, q: u32, days: &[u32]) {
         state = state_after(next);
         i += 1;
     }
-    show::text(b"steps");
-    show::number(method as u64);
+    show::named(b"steps", method as u64);
     show::number(sum);
     show::end_of_line();
 }

@@ -46,10 +46,8 @@ fn thirty_years(seed: u32, gaps: u32) {
     let mut days = [0u32; 10957];
     let mut base = [0u64; 10957];
     river::fill(&mut days, seed, gaps);
-    show::text(b"thirty years");
-    show::number(gaps as u64);
+    show::named(b"thirty years", gaps as u64);
     show::day_list(&days);
-    show::end_of_line();
     passes(&days, &mut base);
     other_methods(&days, &mut base);
     calls::steps(1, 9250, 0, &days);
@@ -83,7 +81,8 @@ fn main() {
     thirty_years(3, river::GAP_AT_END);
     thirty_years(4, river::GAPS_EVERYWHERE);
     full_record();
-    refusals::of_reading();
+    refusals::of_entries();
+    refusals::of_day_counts();
     refusals::of_settings();
     refusals::of_lists();
     refusals::of_steps();

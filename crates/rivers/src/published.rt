@@ -7,7 +7,7 @@ use crate::river;
 fn fall_by(constant: u32) {
     let mut days = [0u32; 20];
     let mut limbs = [0u32; 2];
-    river::fall(&mut days, constant);
+    river::fall(&mut days, 10_000_000, constant, 0, 0);
     calls::ratios(5, &days, &mut limbs);
 }
 
@@ -27,7 +27,7 @@ pub fn recession_constants() {
 fn steady_index(method: u32, p: u32, q: u32) {
     let mut days = [0u32; 10957];
     let mut base = [0u64; 10957];
-    river::steady(&mut days, 1_000_000, 0, 0);
+    river::fall(&mut days, 1_000_000, 10_000, 0, 0);
     calls::filter_and_totals(method, p, q, 1, &days, &mut base);
 }
 
@@ -47,6 +47,6 @@ pub fn base_flow_indices() {
 pub fn minima_line() {
     let mut days = [0u32; 1000];
     let mut base = [0u64; 1000];
-    river::steady(&mut days, 100, 10, 1000);
+    river::fall(&mut days, 100, 10_000, 10, 1000);
     calls::line_and_totals(5, 9000, &days, &mut base);
 }

@@ -4,18 +4,26 @@ use filter::DailyFilter;
 use filter::Setting;
 use filter::Yesterday;
 
-// 1 to 8, and the record of zero days, which passes.
-pub fn of_reading() {
+fn read(bytes: &[u8]) {
     let mut days = [7u32; 2];
-    calls::reading(&[1, 0, 0, 0, 0, 9, 0, 0, 0, 0], &mut days);
-    calls::reading(&[1, 0, 0], &mut days);
-    calls::reading(&[5], &mut days);
-    calls::reading(&[2, 1, 0, 0, 0], &mut days);
-    calls::reading(&[1, 160, 134, 1, 0], &mut days);
-    calls::reading(&[1, 0, 0, 0, 0, 4, 174, 142], &mut days);
-    calls::reading(&[1, 0, 0, 0, 0, 3, 3, 3], &mut days);
-    calls::reading(&[1, 0, 0, 0, 0, 9, 1, 0, 0, 0], &mut days);
-    calls::reading(&[1, 0, 0, 0, 0, 9, 0, 0, 0, 0, 0], &mut days);
+    calls::reading(bytes, &mut days);
+}
+
+// 1 to 4, after the record of zero days, which passes.
+pub fn of_entries() {
+    read(&[1, 0, 0, 0, 0, 9, 0, 0, 0, 0]);
+    read(&[1, 0, 0]);
+    read(&[5]);
+    read(&[2, 1, 0, 0, 0]);
+    read(&[1, 160, 134, 1, 0]);
+}
+
+// 5 to 8.
+pub fn of_day_counts() {
+    read(&[1, 0, 0, 0, 0, 4, 174, 142]);
+    read(&[1, 0, 0, 0, 0, 3, 3, 3]);
+    read(&[1, 0, 0, 0, 0, 9, 1, 0, 0, 0]);
+    read(&[1, 0, 0, 0, 0, 9, 0, 0, 0, 0, 0]);
 }
 
 // 11, 12, 13, 16, 18, and method 2's least p, which passes.

@@ -73,17 +73,6 @@ fn part(flow: u32, share: u32) -> u32 {
     ((numbers::near((flow as u64) * (share as u64), 10_000)) % 4_294_967_296) as u32
 }
 
-// Fills a day list with a river that falls by a published recession constant, in ten-thousandths.
-pub fn fall(days: &mut [u32], constant: u32) {
-    let mut flow = 10_000_000;
-    let mut i = 0;
-    while i < days.len() {
-        days[i] = flow;
-        flow = part(flow, constant);
-        i += 1;
-    }
-}
-
 fn storm_or(flow: u32, i: usize, apart: usize, storm: u32) -> u32 {
     if apart == 0 {
         return flow;
@@ -94,11 +83,14 @@ fn storm_or(flow: u32, i: usize, apart: usize, storm: u32) -> u32 {
     flow
 }
 
-// Fills a day list with the same flow on every day, and a storm on every `apart`th, where `apart` is not 0.
-pub fn steady(days: &mut [u32], flow: u32, apart: usize, storm: u32) {
+// Fills a day list with a river that falls from a flow by a constant, in ten-thousandths (10,000 is a steady river), and
+// has a storm on every `apart`th day, where `apart` is not 0.
+pub fn fall(days: &mut [u32], from: u32, constant: u32, apart: usize, storm: u32) {
+    let mut flow = from;
     let mut i = 0;
     while i < days.len() {
         days[i] = storm_or(flow, i, apart, storm);
+        flow = part(flow, constant);
         i += 1;
     }
 }

@@ -14,6 +14,12 @@ pub fn number(n: u64) {
     io::print_decimal(STDOUT_FILENO, n);
 }
 
+// Words and their number.
+pub fn named(words: &[u8], n: u64) {
+    text(words);
+    number(n);
+}
+
 pub fn end_of_line() {
     io::write_all(STDOUT_FILENO, b"\n");
 }
@@ -73,39 +79,34 @@ fn limb_sum(limbs: &[u32]) -> u64 {
     sum
 }
 
-// A base list: its check sum, and its values on the first, the middle and the last day.
+// The end of a line with a base list: its check sum, and its values on the first, the middle and the last day.
 pub fn base_list(base: &[u64]) {
-    text(b", base");
-    number(base_sum(base));
+    named(b", base", base_sum(base));
     if base.len() > 0 {
         number(base[0]);
         number(base[base.len() / 2]);
         number(base[base.len() - 1]);
     }
+    end_of_line();
 }
 
 pub fn day_list(days: &[u32]) {
-    text(b", days");
-    number(day_sum(days));
+    named(b", days", day_sum(days));
+    end_of_line();
 }
 
 pub fn limb_list(limbs: &[u32]) {
-    text(b", limbs");
-    number(limb_sum(limbs));
+    named(b", limbs", limb_sum(limbs));
+    end_of_line();
 }
 
 pub fn refusal(refusal: series::Refusal) {
-    text(b": refused");
-    number(refusal.number() as u64);
+    named(b": refused", refusal.number() as u64);
 }
 
 pub fn verdict(verdict: Verdict) {
     match verdict {
-        Verdict::Accepted => {
-            text(b": accepted");
-        }
-        Verdict::Refused(cause) => {
-            refusal(cause);
-        }
+        Verdict::Accepted => text(b": accepted"),
+        Verdict::Refused(cause) => refusal(cause),
     }
 }

@@ -4,7 +4,7 @@ use libc::STDERR_FILENO;
 use libc::STDIN_FILENO;
 use libc::STDOUT_FILENO;
 ghost use lib.ListN.{length};
-ghost use Rattle.separate.specs.Input.{Within};
+ghost use Rattle.separate.specs.Private.{FitsInto};
 
 // What standard input comes to: so many bytes, or none that can be relied on.
 enum Input {
@@ -14,7 +14,7 @@ enum Input {
 
 // One read: no bytes at the input's end.
 fn read_part(part: &mut [u8]) -> Input
-    ensures { λ r. ⌜ Within r (length (now (part .exit))) ⌝ }
+    ensures { λ r. ⌜ FitsInto r (length (now (part .exit))) ⌝ }
 {
     let got = libc::read(STDIN_FILENO, part);
     if got < 0 {
@@ -25,7 +25,7 @@ fn read_part(part: &mut [u8]) -> Input
 
 // Reads until the input ends or the buffer is full.
 fn read_input(bytes: &mut [u8]) -> Input
-    ensures { λ r. ⌜ Within r (length (now (bytes .exit))) ⌝ }
+    ensures { λ r. ⌜ FitsInto r (length (now (bytes .exit))) ⌝ }
 {
     let mut at = 0;
     while at < bytes.len() {

@@ -1,16 +1,51 @@
 -- Document 01's sentence on segments, of `overSegments`: a rule is applied to each segment alone, and a missing day
 -- has no value.
 -- Assumes nothing.
-use Prim.Native.Nat.{ℕ, zero, suc, _+_, _≤_, _<_}
+use Prim.Native.Nat.{ℕ, zero, suc, _+_, _-_, _≤_, _<_}
 use mathlib.Core.Path.{_≡_, refl, sym, _∙_, ap, subst}
+use mathlib.Core.Bool.{true, false, true≢false}
 use mathlib.Core.List.{List, [], _∷_, _++_, map, append-assoc, append-nil}
+use mathlib.Core.Logic.{_⊎_, inl, inr, ⊎-elim}
 use mathlib.Core.Option.{Option, none, some, Option·none-ne-some}
-use native.Mathlib.Nat.{zero-add, suc-add, lt-of-not-le, suc-inj}
+use native.Mathlib.Nat.{add-zero, lt-of-not-le}
 use native.Mathlib.Decide.{decLe}
 use native.Mathlib.Omega.{arith}
 use lib.ListN.{length, getD, take, drop, length-append, length-take, length-drop, length-map, take-append-drop, List·getD-eq-default}
-use lib.Seq.{split-at, take-all, take-at, drop-at, getD-at, length-take-le, append-snoc, getD-drop}
+use lib.Seq.{split-at, take-all, take-at, drop-at, getD-at, length-take-le, append-snoc, getD-drop, getD-take}
+use Rattle.series.specs.Runs.{joined, joinsAt}
 use Rattle.series.specs.Segments.{Segment, parts, afterGaps, overSegments}
+use Rattle.series.proofs.Runs.{run-sentence, in-a-run}
+
+-- the days on either side of a segment are missing, or outside the list
+module _ {A : Type 0} {days : List (Option A)} {start : ℕ} {flows : List A} (s : Segment days start flows) where
+  both-missing : (a b : Option A) → joined (λ _ _. true) a b ≡ false → (a ≡ none) ⊎ (b ≡ none)
+  unfolding joined
+  both-missing none b e = inl refl
+  both-missing (some x) none e = inr refl
+  both-missing (some x) (some y) e = absurd (true≢false e)
+
+  some-at : (xs : List A) (i : ℕ) → i < length xs → getD (map some xs) i none ≡ none → ⊥
+  some-at [] i h e = omega arith
+  some-at (x ∷ xs) zero h e = Option·none-ne-some x (sym e)
+  some-at (x ∷ xs) (suc i) h e = some-at xs i (omega arith) e
+
+  present : (i : ℕ) → i < length flows → getD days (start + i) none ≡ none → ⊥
+  present i h e = some-at flows i h (ap (λ l. getD l i none) (sym (s .neighbouring)) ∙ getD-take (length flows) (drop start days) i none h ∙ getD-drop start days i none ∙ e)
+
+  pub missing-before : (t : ℕ) → start ≡ suc t → getD days t none ≡ none
+  unfolding joinsAt
+  missing-before t e =
+      ⊎-elim (λ h. h) (λ h. absurd (present 0 (s .not-empty) (ap (λ k. getD days k none) (add-zero start ∙ e) ∙ h)))
+      (both-missing (getD days t none) (getD days (suc t) none) (subst (λ k. joinsAt (λ _ _. true) days k ≡ false) e (s .none-before)))
+
+  pub missing-after : getD days (start + length flows) none ≡ none
+  unfolding joinsAt
+  missing-after =
+      let n = length flows - 1 in
+      let e : start + length flows ≡ suc (start + n) = omega (arith, s .not-empty) in
+      rw e
+      (⊎-elim (λ h. absurd (present n (omega (arith, s .not-empty)) h)) (λ h. h)
+      (both-missing (getD days (start + n) none) (getD days (suc (start + n)) none) (subst (λ k. joinsAt (λ _ _. true) days k ≡ false) e (s .none-after))))
 
 module _ {A B : Type 0} (rule : List A → List (Option B)) where
   parts-some : (flows : List A) → parts (map some flows) ≡ record { first = flows; rest = [] }
@@ -92,8 +127,8 @@ module _ {A B : Type 0} (rule : List A → List (Option B)) where
         let here : start < length days =
         omega (arith, s .not-empty, ap length (s .neighbouring) ∙ length-map flows some, length-take n (drop start days), length-drop start days) in
         let after : getD (drop n (drop start days)) 0 none ≡ none =
-        getD-drop n (drop start days) 0 none ∙ getD-drop start days (n + 0) none ∙ ap (λ t. getD days t none) (omega arith) ∙ s .none-after in
-        rw (from-start days start here (s .none-before), ← take-append-drop n (drop start days), s .neighbouring) (up-to-gap flows (drop n (drop start days)) after)
+        getD-drop n (drop start days) 0 none ∙ getD-drop start days (n + 0) none ∙ ap (λ t. getD days t none) (omega arith) ∙ missing-after s in
+        rw (from-start days start here (missing-before s), ← take-append-drop n (drop start days), s .neighbouring) (up-to-gap flows (drop n (drop start days)) after)
 
 -- each present day lies in a segment
 pub record InSegment {A : Type 0} (days : List (Option A)) (t : ℕ) : Type 0 where
@@ -103,42 +138,7 @@ pub record InSegment {A : Type 0} (days : List (Option A)) (t : ℕ) : Type 0 wh
   pub from : start ≤ t
   pub to : t < start + length flows
 
-module _ {A : Type 0} where
-  -- a segment with one day more before it, which cannot join it
-  shifted : (d : Option A) {ds : List (Option A)} (start : ℕ) {flows : List A} → (start ≡ 0 → d ≡ none) → Segment ds start flows → Segment (d ∷ ds) (suc start) flows
-  shifted d {ds} start {flows} apart s =
-      record { not-empty = s .not-empty; neighbouring = s .neighbouring; none-before = λ t e. before start refl t (suc-inj e); none-after = rw suc-add (s .none-after) }
-    where
-      before : (k : ℕ) → start ≡ k → (t : ℕ) → start ≡ t → getD (d ∷ ds) t none ≡ none
-      before zero e t h = subst (λ n. getD (d ∷ ds) n none ≡ none) (sym e ∙ h) (apart e)
-      before (suc k) e t h = subst (λ n. getD (d ∷ ds) n none ≡ none) (sym e ∙ h) (s .none-before k e)
-
-  -- a segment at the front of a list, with a present day before it
-  joined : (x : A) {ds : List (Option A)} (flows : List A) → take (length flows) ds ≡ map some flows → getD ds (length flows) none ≡ none → Segment (some x ∷ ds) 0 (x ∷ flows)
-  joined x flows neighbouring after =
-      record { not-empty = omega arith; neighbouring = ap (λ l. some x ∷ l) neighbouring; none-before = λ t e. absurd (omega arith); none-after = rw zero-add after }
-
-  front : (ds : List (Option A)) → (take (length (parts ds .first)) ds ≡ map some (parts ds .first)) × (getD ds (length (parts ds .first)) none ≡ none)
-  unfolding parts
-  front [] = (refl, refl)
-  front (none ∷ ds) = (refl, refl)
-  front (some x ∷ ds) = (ap (λ l. some x ∷ l) (front ds .0), front ds .1)
-
-  with-day-before : (x : A) {ds : List (Option A)} {t : ℕ} (i : InSegment ds t) (start : ℕ) → i .start ≡ start → InSegment (some x ∷ ds) (suc t)
-  with-day-before x {ds} i zero e =
-      let s = subst (λ k. Segment ds k (i .flows)) e (i .segment) in
-      let after : getD ds (length (i .flows)) none ≡ none = rw zero-add at (s .none-after) in
-      record { start = 0; flows = x ∷ i .flows; segment = joined x (i .flows) (s .neighbouring) after; from = omega arith; to = omega (arith, e, i .to) }
-  with-day-before x {ds} i (suc k) e =
-      record { start = suc (i .start); flows = i .flows; segment = shifted (some x) (i .start) (λ z. absurd (omega arith)) (i .segment); from = omega (arith, i .from); to = omega (arith, i .to) }
-
-  pub in-a-segment : (days : List (Option A)) (t : ℕ) (y : A) → getD days t none ≡ some y → InSegment days t
-  in-a-segment [] t y e = absurd (Option·none-ne-some y e)
-  in-a-segment (none ∷ ds) zero y e = absurd (Option·none-ne-some y e)
-  in-a-segment (some x ∷ ds) zero y e =
-      let f = front ds in
-      record { start = 0; flows = x ∷ parts ds .first; segment = joined x (parts ds .first) (f .0) (f .1); from = omega arith; to = omega arith }
-  in-a-segment (none ∷ ds) (suc t) y e =
-      let i = in-a-segment ds t y e in
-      record { start = suc (i .start); flows = i .flows; segment = shifted none (i .start) (λ _. refl) (i .segment); from = omega (arith, i .from); to = omega (arith, i .to) }
-  in-a-segment (some x ∷ ds) (suc t) y e = let i = in-a-segment ds t y e in with-day-before x i (i .start) refl
+pub in-a-segment : {A : Type 0} (days : List (Option A)) (t : ℕ) (y : A) → getD days t none ≡ some y → InSegment days t
+in-a-segment days t y e =
+    let i = in-a-run (λ _ _. true) days t y e in
+    record { start = i .run .start; flows = i .run .flows; segment = run-sentence (λ _ _. true) days (i .run) .0 (i .listed); from = i .from; to = i .to }

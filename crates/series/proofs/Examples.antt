@@ -8,7 +8,7 @@ use mathlib.Core.Option.{Option, none, some}
 use Rattle.series.specs.Units.{isInvalidDay, dayOf, baseOf, baseMark}
 use Rattle.series.specs.Segments.{parts, overSegments}
 use Rattle.series.specs.Causes.{cause, firstCause}
-use Rattle.series.specs.Lists.{tooLong, lengthsDiffer, isInvalidBase, listCauses}
+use Rattle.series.specs.Lists.{isInvalidBase}
 
 days-in-memory : map dayOf (0 ∷ 4294967295 ∷ 10000000 ∷ []) ≡ some 0 ∷ none ∷ some 10000000 ∷ []
 unfolding dayOf
@@ -45,11 +45,6 @@ first-of-two = refl
 
 no-cause : firstCause (cause false 11 ∷ cause false 12 ∷ []) ≡ none
 no-cause = refl
-
--- lists of different length with an invalid day: 14 comes before 10
-before-invalid : firstCause (listCauses (10000001 ∷ []) []) ≡ some 14
-unfolding listCauses tooLong lengthsDiffer
-before-invalid = refl
 
 -- a base value at 1000 × the flow passes, one thousandth more does not, and none passes on a missing day
 base-at-flow : isInvalidBase (some 5) (some 5000) ≡ false

@@ -5,8 +5,9 @@ use mathlib.Core.Path.{_≡_, refl, sym, _∙_, ap, ap₂, subst}
 use mathlib.Core.List.{List, [], _∷_, _++_, map, reverse, reverseAux, reverse-append, reverse-reverse, reverse-cons, append-nil}
 use mathlib.Core.Option.{Option, none, some}
 use lib.Seq.{append-snoc}
-use Rattle.series.specs.Segments.{Parts, parts, afterGaps, overSegments}
-use Rattle.series.specs.Agreement.{Each, done, then}
+use Rattle.numbers.specs.Lists.{Each, done, then}
+use Rattle.numbers.proofs.Pairwise.{each-append}
+use Rattle.series.specs.Segments.{Parts, parts, afterGaps, overSegments, overFirst}
 use Rattle.series.proofs.Alone.{over-gap, over-one}
 
 -- a list from its parts
@@ -80,23 +81,6 @@ module _ {A B : Type 0} (rule : List A → List (Option B)) where
   pub over-reverse : (days : List (Option A)) → overSegments rule (reverse days) ≡ reverse (overSegments turned days)
   over-reverse days = subst (λ ds. overSegments rule (reverse ds) ≡ reverse (overSegments turned ds)) (whole-parts days) (whole-turned (parts days .first) (parts days .rest))
 
-module _ {A B C : Type 0} {R : A → B → C → Type 0} where
-  each-append : {xs xs′ : List A} {ys ys′ : List B} {zs zs′ : List C} → Each R xs ys zs → Each R xs′ ys′ zs′ → Each R (xs ++ xs′) (ys ++ ys′) (zs ++ zs′)
-  each-append done e = e
-  each-append (then r d) e = then r (each-append d e)
-
-  each-onto : {xs xs′ : List A} {ys ys′ : List B} {zs zs′ : List C} → Each R xs ys zs → Each R xs′ ys′ zs′ → Each R (reverseAux xs xs′) (reverseAux ys ys′) (reverseAux zs zs′)
-  each-onto done e = e
-  each-onto (then r d) e = each-onto d (then r e)
-
-  pub each-reverse : {xs : List A} {ys : List B} {zs : List C} → Each R xs ys zs → Each R (reverse xs) (reverse ys) (reverse zs)
-  each-reverse e = each-onto e done
-
-  -- a relation that implies another
-  pub each-weaken : {S : A → B → C → Type 0} {xs : List A} {ys : List B} {zs : List C} → ((a : A) (b : B) (c : C) → R a b c → S a b c) → Each R xs ys zs → Each S xs ys zs
-  each-weaken f done = done
-  each-weaken f (then {a} {b} {c} r d) = then (f a b c r) (each-weaken f d)
-
 -- side by side: what two rules have on each segment, they have on each list
 module _ {B C : Type 0} (R : Option ℕ → Option B → Option C → Type 0) (missing : R none none none) where
   module _ (f : List ℕ → List (Option B)) (g : List ℕ → List (Option C)) (alone : (flows : List ℕ) → Each R (map some flows) (f flows) (g flows)) where
@@ -110,3 +94,21 @@ module _ {B C : Type 0} (R : Option ℕ → Option B → Option C → Type 0) (m
     over-each days =
         let p = parts days in
         subst (λ ds. Each R ds (overSegments f days) (overSegments g days)) (whole-parts days) (each-append (alone (p .first)) (each-gap (p .rest)))
+
+-- a rule of its own for the first segment: with one rule for all it is `overSegments` ..
+pub over-first : {A B : Type 0} (rule : List A → List (Option B)) → rule [] ≡ [] → (days : List (Option A)) → overFirst rule rule days ≡ overSegments rule days
+unfolding overFirst overSegments parts afterGaps
+over-first rule e [] = rw e
+over-first rule e (none ∷ ds) = rw e (ap (λ l. none ∷ l) (over-first rule e ds))
+over-first rule e (some y ∷ ds) = refl
+
+-- .. and side by side it is as that
+module _ {B C : Type 0} (R : Option ℕ → Option B → Option C → Type 0) (missing : R none none none) where
+  module _ (f₀ f : List ℕ → List (Option B)) (g₀ g : List ℕ → List (Option C)) (first : (flows : List ℕ) → Each R (map some flows) (f₀ flows) (g₀ flows)) (alone : (flows : List ℕ) → Each R (map some flows) (f flows) (g flows)) where
+    pub first-each : (days : List (Option ℕ)) → Each R days (overFirst f₀ f days) (overFirst g₀ g days)
+    unfolding overFirst parts
+    first-each [] = done
+    first-each (none ∷ ds) = then missing (first-each ds)
+    first-each (some y ∷ ds) =
+        let p = parts ds in
+        subst (λ l. Each R (some y ∷ l) (overFirst f₀ f (some y ∷ ds)) (overFirst g₀ g (some y ∷ ds))) (whole-parts ds) (each-append (first (y ∷ p .first)) (each-gap R missing f g alone (p .rest)))

@@ -1,8 +1,9 @@
 -- Refusals (document 01, "Refusal table"): of a call's causes, in the call's order, the first that holds decides.
 use Prim.Native.Nat.{ℕ}
+use mathlib.Core.Path.{_≡_}
 use mathlib.Core.Bool.{Bool, cond}
 use mathlib.Core.List.{List, [], _∷_}
-use mathlib.Core.Option.{Option, none, some}
+use mathlib.Core.Option.{Option, none, some, orElse}
 use Rattle.series.specs.declared.Refusal.{Refusal}
 use Rattle.series.specs.declared.Refusal.the-variants.{Truncated, UnknownKind, MisplacedHead, ValueOutOfRange, TooManyDays, DayListTooShort, WrongEndCount, BytesAfterEnd, DayListTooLong, InvalidDay, UnknownMethod, ParameterOutOfRange, InvalidPasses, LengthsDiffer, InvalidState, LineSettingOutOfRange, NoLine, LimbDaysOutOfRange, NoRatio, InvalidBase, NoFlow, LimbListTooShort}
 use Rattle.series.specs.declared.Verdict.{Verdict}
@@ -51,12 +52,38 @@ abbrev pub firstCause : List Cause → Option ℕ
 firstCause [] = none
 firstCause (c ∷ cs) = cond (c .holds) (some (c .number)) (firstCause cs)
 
+-- what a call comes to by its first cause: what that makes of its number, or else what an accepted call has
+abbrev pub byCause : {A : Type 0} → Option ℕ → (refuse : ℕ → A) → (accept : A) → A
+byCause none refuse accept = accept
+byCause (some n) refuse accept = refuse n
+
 -- what a call answers: its values, or the number of its refusal
 pub data Outcome (A : Type 0) : Type 0 where
   accepted : A → Outcome A
   refused : ℕ → Outcome A
 
+-- what follows of an outcome: of its number, or of its values
+abbrev pub byOutcome : {A B : Type 0} → Outcome A → (refuse : ℕ → B) → (accept : A → B) → B
+byOutcome (accepted a) refuse accept = accept a
+byOutcome (refused n) refuse accept = refuse n
+
+-- an outcome with its values changed
+abbrev pub mapOutcome : {A B : Type 0} → (A → B) → Outcome A → Outcome B
+mapOutcome f (accepted a) = accepted (f a)
+mapOutcome f (refused n) = refused n
+
 -- the values where no cause holds, and else the first cause's number
 abbrev pub outcome : {A : Type 0} → List Cause → A → Outcome A
-outcome [] a = accepted a
-outcome (c ∷ cs) a = cond (c .holds) (refused (c .number)) (outcome cs a)
+outcome cs a = byCause (firstCause cs) refused (accepted a)
+
+-- what a call leaves in a buffer, or in a state: what it fills in where no cause holds, and else what was there at entry
+unfoldable pub leaves : {A : Type 0} → List Cause → (filled entry : A) → A
+leaves cs filled entry = byCause (firstCause cs) (λ _. entry) filled
+
+-- a verdict is that of the first of some causes
+pub record Decides (cs : List Cause) (v : Verdict) : Type 0 where
+  pub first : refusalOf v ≡ firstCause cs
+
+-- a verdict with one cause more behind it: the refusal so far, or else the cause's number where it holds
+pub record WithCause (v : Verdict) (holds : Bool) (n : ℕ) (v′ : Verdict) : Type 0 where
+  pub next : refusalOf v′ ≡ orElse (refusalOf v) (cond holds (some n) none)

@@ -1,4 +1,5 @@
 pub mod Units
+pub mod Runs
 pub mod Segments
 pub mod Causes
 pub mod Lists

@@ -6,7 +6,6 @@ use mathlib.Core.Option.{Option, none, some}
 use lib.ListN.{length}
 use lib.Dec.{ltb, eqb}
 use Rattle.series.specs.Units.{dayLimit, isInvalidDay, dayOf, baseOf}
-use Rattle.series.specs.Causes.{Cause, cause}
 
 -- 9: day list over 36,525 long
 unfoldable pub tooLong : List ℕ → Bool
@@ -32,8 +31,3 @@ unfoldable pub anyInvalidBase : List ℕ → List ℕ → Bool
 anyInvalidBase [] bs = false
 anyInvalidBase (d ∷ ds) [] = false
 anyInvalidBase (d ∷ ds) (b ∷ bs) = isInvalidBase (dayOf d) (baseOf b) || anyInvalidBase ds bs
-
--- the part of their order that filters, minima line and totals share
-unfoldable pub listCauses : List ℕ → List ℕ → List Cause
-listCauses days base =
-    cause (tooLong days) 9 ∷ cause (lengthsDiffer days base) 14 ∷ cause (anyInvalidDay days) 10 ∷ []

@@ -1,17 +1,13 @@
 -- Segments (document 01: stretches): the longest lists of neighbouring present days.
-use Prim.Native.Nat.{ℕ, suc, _+_, _<_}
-use mathlib.Core.Path.{_≡_}
-use mathlib.Core.List.{List, [], _∷_, _++_, map}
+use Prim.Native.Nat.{ℕ}
+use mathlib.Core.Bool.{true}
+use mathlib.Core.List.{List, [], _∷_, _++_}
 use mathlib.Core.Option.{Option, none, some}
-use lib.ListN.{length, getD, take, drop}
+use Rattle.series.specs.Runs.{Longest}
 
--- Document 01's sentence: from `start` on stand the flows of neighbouring present days, at least one, and no day on
--- either side could join them. (`getD days t none` is none for a missing day and outside the list.)
-pub record Segment {A : Type 0} (days : List (Option A)) (start : ℕ) (flows : List A) : Type 0 where
-  pub not-empty : 0 < length flows
-  pub neighbouring : take (length flows) (drop start days) ≡ map some flows
-  pub none-before : (t : ℕ) → start ≡ suc t → getD days t none ≡ none
-  pub none-after : getD days (start + length flows) none ≡ none
+-- Document 01's sentence: a longest run of neighbouring present days, any two of which belong together
+abbrev pub Segment : {A : Type 0} → (days : List (Option A)) → (start : ℕ) → (flows : List A) → Type 0
+Segment days start flows = Longest (λ _ _. true) days start flows
 
 -- A list parted at its missing days: what stands before the first of them, and what follows each. What is not empty
 -- of these is a segment.
@@ -33,3 +29,10 @@ afterGaps rule (s ∷ ss) = none ∷ (rule s ++ afterGaps rule ss)
 unfoldable pub overSegments : {A B : Type 0} → (List A → List (Option B)) → List (Option A) → List (Option B)
 unfolding parts afterGaps
 overSegments rule days = rule (parts days .first) ++ afterGaps rule (parts days .rest)
+
+-- the same where the first segment, behind any missing days, has a rule of its own; with one rule for all it is `overSegments`
+unfoldable pub overFirst : {A B : Type 0} → (first rule : List A → List (Option B)) → List (Option A) → List (Option B)
+unfolding parts afterGaps
+overFirst first rule [] = []
+overFirst first rule (none ∷ ds) = none ∷ overFirst first rule ds
+overFirst first rule (some y ∷ ds) = let p = parts ds in first (y ∷ p .first) ++ afterGaps rule (p .rest)

@@ -3,8 +3,8 @@
 ghost use mathlib.Core.Path.{_≡_};
 ghost use mathlib.Core.Bool.{_||_};
 ghost use Rattle.series.specs.Units.{isInvalidDay, dayOf, baseOf, within};
-ghost use Rattle.series.specs.Causes.{refusalNumber, refusalOf, firstCause};
-ghost use Rattle.series.specs.Lists.{tooLong, lengthsDiffer, anyInvalidDay, isInvalidBase, listCauses};
+ghost use Rattle.series.specs.Causes.{refusalNumber, WithCause};
+ghost use Rattle.series.specs.Lists.{tooLong, lengthsDiffer, anyInvalidDay, isInvalidBase, anyInvalidBase};
 
 // The most days that a list may have.
 pub const DAY_LIMIT: usize = 36_525;
@@ -167,18 +167,29 @@ pub fn is_invalid_base(day: u32, base: u64) -> bool
     1000 * (day as u64) < base
 }
 
-// The checks of a day list and a base list, in the order that filters, minima line and totals share: 9, 14, 10.
-pub fn check_lists(days: &[u32], base: &[u64]) -> Verdict
-    ensures { λ r. ⌜ refusalOf r ≡ firstCause (listCauses (now (days .entry)) (now (base .entry))) ⌝ }
+// 20: a base value on a missing day, or above 1000 × the day's flow.
+pub fn any_invalid_base(days: &[u32], base: &[u64]) -> bool
+    ensures { λ r. ⌜ r ≡ anyInvalidBase (now (days .entry)) (now (base .entry)) ⌝ }
 {
-    if too_long(days) {
-        return Verdict::Refused(Refusal::DayListTooLong);
+    let both = numbers::least(days.len(), base.len());
+    let mut invalid = false;
+    let mut i = 0;
+    while i < both {
+        invalid = either(invalid, is_invalid_base(days[i], base[i]));
+        i += 1;
     }
-    if lengths_differ(days, base) {
-        return Verdict::Refused(Refusal::LengthsDiffer);
+    invalid
+}
+
+// The refusal so far; or else this one, where its cause holds.
+pub fn refuse_if(so_far: Verdict, holds: bool, refusal: Refusal) -> Verdict
+    ensures { λ r. ⌜ WithCause «so_far» holds (refusalNumber refusal) r ⌝ }
+{
+    if let Verdict::Refused(earlier) = so_far {
+        return Verdict::Refused(earlier);
     }
-    if any_invalid_day(days) {
-        return Verdict::Refused(Refusal::InvalidDay);
+    if holds {
+        return Verdict::Refused(refusal);
     }
     Verdict::Accepted
 }

@@ -1,2 +1,3 @@
-pub mod Summing
-mod Outcomes
+mod Summing
+pub mod Outcomes
+pub mod Distance

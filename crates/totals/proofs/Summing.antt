@@ -2,32 +2,22 @@
 -- Assumes nothing.
 use Prim.Native.Nat.{ℕ, _+_, _*_, _≤_, _<_}
 use mathlib.Core.Path.{_≡_, refl, sym, _∙_, ap, subst}
-use mathlib.Core.Bool.{Bool, true, false, cond, _||_, true≢false}
+use mathlib.Core.Bool.{Bool, true, false, _||_}
 use mathlib.Core.List.{List, [], _∷_, map}
-use mathlib.Core.Option.{Option, none, some, Option·none-ne-some, Option·some-injective}
+use mathlib.Core.Option.{Option, none, some}
 use native.Mathlib.Numerals.{add-one}
 use native.Mathlib.Omega.{arith}
 use lib.ListN.{length, getD, drop, drop-of-length-le}
 use lib.Seq.{drop-cons}
-use borrow.Author.Tests.{ltb-false}
 use Rattle.numbers.specs.Arithmetic.{rounded}
-use lib.Dec.{eqb}
-use Rattle.series.specs.Units.{dayLimit, noValueMark, missingMark, isMissing, dayOf, baseOf}
+use Rattle.series.specs.Units.{dayLimit, noValueMark, missingMark, dayOf, baseOf}
 use Rattle.series.specs.Lists.{isInvalidBase, anyInvalidBase}
-use Rattle.series.proofs.Views.{base-none, base-value, day-missing, day-present, neither-of}
+use Rattle.series.proofs.Views.{base-none, base-value, day-missing, day-present, day-flow, neither-of}
+use Rattle.series.proofs.Tests.{none-on-missing, at-flow, next-base, no-invalid-base, any-base}
 use Rattle.totals.specs.declared.Tally.{Tally}
 use Rattle.totals.specs.Sums.{BaseDay, baseDays, flowTotal, baseTotal}
-use Rattle.totals.specs.Totalling.{listedDays}
-use Rattle.totals.specs.Adding.{addDay, Room, OneMore, SumsOf, dayCounted, flowCounted, baseCounted}
-
--- a valid base value stands on a present day, and is at most its flow
-none-on-missing : (b : ℕ) → isInvalidBase none (some b) ≡ false → ⊥
-unfolding isInvalidBase
-none-on-missing b e = true≢false e
-
-at-flow : (y b : ℕ) → isInvalidBase (some y) (some b) ≡ false → b ≤ 1000 * y
-unfolding isInvalidBase
-at-flow y b e = ltb-false (1000 * y) b e
+use Rattle.totals.specs.Call.{listedDays}
+use Rattle.totals.specs.Private.{addDay, Room, OneMore, SumsOf, dayCounted, flowCounted, baseCounted}
 
 -- one day
 module _ (d b : ℕ) where
@@ -40,16 +30,12 @@ module _ (d b : ℕ) where
   value-counted e = rw (base-value b e) (refl, refl)
 
   -- a base value other than the mark: the day is present
-  on-present-day : (b ≡ noValueMark → ⊥) → isInvalidBase (dayOf d) (baseOf b) ≡ false → (d ≡ missingMark → ⊥) × (b ≤ 1000 * d)
-  unfolding isInvalidBase
-  on-present-day e h =
-      let k = rw (base-value b e) at h in
-      let present : d ≡ missingMark → ⊥ = λ m. true≢false (rw (day-missing d m) at k) in
-      (present, ltb-false (1000 * d) b (rw (day-present d present) at k))
+  on-present-day : (b ≡ noValueMark → ⊥) → isInvalidBase (dayOf d) (baseOf b) ≡ false → d ≡ missingMark → ⊥
+  on-present-day e h m = none-on-missing b (rw (base-value b e, day-missing d m) at h)
 
   pub present-counted : (b ≡ noValueMark → ⊥) → isInvalidBase (dayOf d) (baseOf b) ≡ false → d ≡ flowCounted (dayOf d) (baseOf b)
   unfolding flowCounted
-  present-counted e h = rw (base-value b e, day-present d (on-present-day e h .0))
+  present-counted e h = rw (base-value b e, day-present d (on-present-day e h))
 
 -- what a valid day counts with is at most one day, its flow, and 1000 × that
 pub record Little (d : ℕ) (o p : Option ℕ) : Type 0 where
@@ -63,16 +49,8 @@ little d o none l h = record { day = omega arith; flow = omega arith; base = ome
 little d none (some b) l h = absurd (none-on-missing b h)
 little d (some y) (some b) l h = record { day = omega arith; flow = l y refl; base = omega (arith, l y refl, at-flow y b h) }
 
-seen-at-most : (d y : ℕ) → dayOf d ≡ some y → y ≤ d
-unfolding dayOf isMissing
-seen-at-most d y e = by-test (eqb d missingMark) e
-  where
-    by-test : (m : Bool) → cond m none (some d) ≡ some y → y ≤ d
-    by-test true e = absurd (Option·none-ne-some y e)
-    by-test false e = omega (arith, Option·some-injective d y e)
-
 pub little-counted : (d b : ℕ) → isInvalidBase (dayOf d) (baseOf b) ≡ false → Little d (dayOf d) (baseOf b)
-little-counted d b h = little d (dayOf d) (baseOf b) (seen-at-most d) h
+little-counted d b h = little d (dayOf d) (baseOf b) (λ y e. omega (arith, day-flow d e)) h
 
 -- what a day adds to the sums is what it adds to the lists
 pub record Adds (t t′ : Tally) (before after : List (BaseDay ℕ)) : Type 0 where
@@ -94,7 +72,7 @@ module _ (ds bs : List ℕ) where
   abbrev all : List (BaseDay ℕ)
   all = listedDays ds bs
 
-  pub record Summed (t : Tally) (i : ℕ) : Type 0 where
+  pub record SumsSoFar (t : Tally) (i : ℕ) : Type 0 where
     pub within : i ≤ length ds
     pub valid : anyInvalidBase ds bs ≡ anyInvalidBase (drop i ds) (drop i bs)
     pub days : t .days + length (rest i) ≡ length all
@@ -104,25 +82,24 @@ module _ (ds bs : List ℕ) where
     pub small-flow : t .flow ≤ 4294967295 * i
     pub small-base : t .base ≤ 4294967295000 * i
 
-  pub sums-start : {t : Tally} → t .days ≡ 0 → t .flow ≡ 0 → t .base ≡ 0 → Summed t 0
+  pub sums-start : {t : Tally} → t .days ≡ 0 → t .flow ≡ 0 → t .base ≡ 0 → SumsSoFar t 0
   sums-start e f g =
       record { within = omega arith; valid = refl; days = omega arith; flow = omega arith; base = omega arith; few = omega arith; small-flow = omega arith; small-base = omega arith }
 
   module _ (same : length ds ≡ length bs) (short : length ds ≤ dayLimit) where
-    pub has-room : {t : Tally} {i : ℕ} → Summed t i → Room t
+    pub has-room : {t : Tally} {i : ℕ} → SumsSoFar t i → Room t
     has-room r = record { days = omega (arith, short, r .few, r .within); flow = omega (arith, short, r .small-flow, r .within); base = omega (arith, short, r .small-base, r .within) }
 
     next-test : (i : ℕ) → i < length ds → anyInvalidBase (drop i ds) (drop i bs) ≡ (isInvalidBase (dayOf (getD ds i 0)) (baseOf (getD bs i 0)) || anyInvalidBase (drop (i + 1) ds) (drop (i + 1) bs))
-    unfolding anyInvalidBase
-    next-test i h = let k : i < length bs = omega (arith, same) in rw (add-one, drop-cons ds i 0, drop-cons bs i 0)
+    next-test i h = next-base ds bs i h (omega (arith, same))
 
     next-rest : (i : ℕ) → i < length ds → rest i ≡ baseDays (dayOf (getD ds i 0) ∷ map dayOf (drop (i + 1) ds)) (baseOf (getD bs i 0) ∷ map baseOf (drop (i + 1) bs))
     next-rest i h = let k : i < length bs = omega (arith, same) in rw (add-one, drop-cons ds i 0, drop-cons bs i 0)
 
-    pub found-invalid : {t : Tally} {i : ℕ} {b : Bool} → i < length ds → b ≡ isInvalidBase (dayOf (getD ds i 0)) (baseOf (getD bs i 0)) → b ≡ true → Summed t i → anyInvalidBase ds bs ≡ true
+    pub found-invalid : {t : Tally} {i : ℕ} {b : Bool} → i < length ds → b ≡ isInvalidBase (dayOf (getD ds i 0)) (baseOf (getD bs i 0)) → b ≡ true → SumsSoFar t i → anyInvalidBase ds bs ≡ true
     found-invalid {i = i} h e f r = r .valid ∙ next-test i h ∙ ap (λ x. x || anyInvalidBase (drop (i + 1) ds) (drop (i + 1) bs)) (sym e ∙ f)
 
-    pub sums-turn : {t t′ : Tally} {i : ℕ} → i < length ds → isInvalidBase (dayOf (getD ds i 0)) (baseOf (getD bs i 0)) ≡ false → (t′ ≡ addDay t (dayOf (getD ds i 0)) (baseOf (getD bs i 0))) × OneMore t t′ → Summed t i → Summed t′ (i + 1)
+    pub sums-turn : {t t′ : Tally} {i : ℕ} → i < length ds → isInvalidBase (dayOf (getD ds i 0)) (baseOf (getD bs i 0)) ≡ false → (t′ ≡ addDay t (dayOf (getD ds i 0)) (baseOf (getD bs i 0))) × OneMore t t′ → SumsSoFar t i → SumsSoFar t′ (i + 1)
     sums-turn {t} {t′} {i} h v e r =
         let n = next-rest i h in
         let a = subst (λ x. Adds t x (baseDays (dayOf (getD ds i 0) ∷ map dayOf (drop (i + 1) ds)) (baseOf (getD bs i 0) ∷ map baseOf (drop (i + 1) bs))) (rest (i + 1))) (sym (e .0)) (adds t (dayOf (getD ds i 0)) (baseOf (getD bs i 0)) (map dayOf (drop (i + 1) ds)) (map baseOf (drop (i + 1) bs)) v) in
@@ -137,11 +114,11 @@ module _ (ds bs : List ℕ) where
           small-base = omega (arith, e .1 .base, r .small-base);
         }
 
-    pub sums-end : {t : Tally} {i : ℕ} → length ds ≤ i → Summed t i → (anyInvalidBase ds bs ≡ false) × SumsOf all t
-    unfolding anyInvalidBase baseDays flowTotal baseTotal
+    pub sums-end : {t : Tally} {i : ℕ} → length ds ≤ i → SumsSoFar t i → (anyInvalidBase ds bs ≡ false) × SumsOf all t
+    unfolding baseDays flowTotal baseTotal
     sums-end {t} {i} h r =
         let none-left : rest i ≡ [] = rw (drop-of-length-le ds h) in (
-          rw (drop-of-length-le ds h) at (r .valid),
+          (rw (drop-of-length-le ds h) at (r .valid)) ∙ no-invalid-base (drop i bs),
           record {
             days = omega (arith, r .days, ap length none-left);
             flow = omega (arith, r .flow, ap flowTotal none-left);
@@ -152,10 +129,10 @@ module _ (ds bs : List ℕ) where
 
 -- what the totals of valid lists are
 pub base-at-most : (ds bs : List ℕ) → anyInvalidBase ds bs ≡ false → baseTotal rounded (listedDays ds bs) ≤ 1000 * flowTotal (listedDays ds bs)
-unfolding anyInvalidBase baseDays flowTotal baseTotal
+unfolding baseDays flowTotal baseTotal
 base-at-most [] bs e = omega arith
 base-at-most (d ∷ ds) [] e = omega arith
-base-at-most (d ∷ ds) (b ∷ bs) e = by-view (dayOf d) (baseOf b) (neither-of (isInvalidBase (dayOf d) (baseOf b)) (anyInvalidBase ds bs) e .0) (base-at-most ds bs (neither-of (isInvalidBase (dayOf d) (baseOf b)) (anyInvalidBase ds bs) e .1))
+base-at-most (d ∷ ds) (b ∷ bs) e = let h = neither-of _ _ (sym (any-base d ds b bs) ∙ e) in by-view (dayOf d) (baseOf b) (h .0) (base-at-most ds bs (h .1))
   where
     by-view : (o p : Option ℕ) → isInvalidBase o p ≡ false → baseTotal rounded (listedDays ds bs) ≤ 1000 * flowTotal (listedDays ds bs) → baseTotal rounded (baseDays (o ∷ map dayOf ds) (p ∷ map baseOf bs)) ≤ 1000 * flowTotal (baseDays (o ∷ map dayOf ds) (p ∷ map baseOf bs))
     by-view o none h k = k

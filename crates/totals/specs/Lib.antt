@@ -1,4 +1,4 @@
 pub mod Sums
-pub mod Totalling
-pub mod Adding
-pub mod Finding
+pub mod Call
+pub mod Distance
+pub mod Private

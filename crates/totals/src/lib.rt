@@ -1,17 +1,17 @@
 // Totals over the days with a base value, and the base flow index (document 01, "Totals and index").
 use series::Refusal;
 use series::Verdict;
+use series::lengths_differ;
+use series::refuse_if;
 ghost use mathlib.Core.Path.{_≡_};
 ghost use Prim.Native.Nat.{_*_, _-_, _≤_};
 ghost use mathlib.Core.Bool.{false};
-ghost use mathlib.Core.Option.{orElse};
 ghost use lib.ListN.{length};
 ghost use Rattle.series.specs.Units.{dayOf, baseOf, dayLimit};
 ghost use Rattle.series.specs.Lists.{isInvalidBase};
-ghost use Rattle.series.specs.Causes.{refusalOf};
-ghost use Rattle.totals.specs.Totalling.{totalsOutcome, outcomeOf};
-ghost use Rattle.totals.specs.Adding.{addDay, Room, OneMore, dayCounted, flowCounted, baseCounted};
-ghost use Rattle.totals.specs.Finding.{FoundIn, Bounded, refusalFound, outcomeFound, outcomeOfSums};
+ghost use Rattle.series.specs.Causes.{Decides};
+ghost use Rattle.totals.specs.Call.{totalsCauses, totalsOutcome, outcomeOf};
+ghost use Rattle.totals.specs.Private.{addDay, Room, OneMore, dayCounted, flowCounted, baseCounted, FoundIn, FoundInFront, Bounded, foundInvalid, foundNoFlow, totalsFrom, outcomeFound};
 
 // The totals over the days with a base value.
 pub struct Totals {
@@ -49,36 +49,47 @@ enum Found {
 pub fn total(days: &[u32], base: &[u64]) -> Answer
     ensures { λ r. ⌜ outcomeOf r ≡ totalsOutcome (now (days .entry)) (now (base .entry)) ⌝ }
 {
-    let lists = series::check_lists(days, base);
     let both = numbers::least(days.len(), base.len());
     let n = numbers::least(both, series::DAY_LIMIT);
     let found = sums(&days[..n], &base[..n]);
-    let values = check_base(found);
-    let verdict = earlier(lists, values);
+    let verdict = check(days, base, found);
     if let Verdict::Refused(refusal) = verdict {
         return Answer::Refused(refusal);
     }
     from_found(found)
 }
 
+// The checks: 9, 14, 10, 20, 21; the last two by what was found in the front of the lists.
+fn check(days: &[u32], base: &[u64], found: Found) -> Verdict
+    requires { ⌜ FoundInFront (now days) (now base) found ⌝ }
+    ensures { λ r. ⌜ Decides (totalsCauses (now (days .entry)) (now (base .entry))) r ⌝ }
+{
+    let v = Verdict::Accepted;
+    let v = refuse_if(v, series::too_long(days), Refusal::DayListTooLong);
+    let v = refuse_if(v, lengths_differ(days, base), Refusal::LengthsDiffer);
+    let v = refuse_if(v, series::any_invalid_day(days), Refusal::InvalidDay);
+    let v = refuse_if(v, has_invalid_base(found), Refusal::InvalidBase);
+    refuse_if(v, has_no_flow(found), Refusal::NoFlow)
+}
+
 // 20: a base value on a missing day or above 1000 × the day's flow.
-fn check_base(found: Found) -> Verdict
-    ensures { λ r. ⌜ refusalOf r ≡ refusalFound found ⌝ }
+fn has_invalid_base(found: Found) -> bool
+    ensures { λ r. ⌜ r ≡ foundInvalid found ⌝ }
 {
     match found {
-        Found::InvalidBase => Verdict::Refused(Refusal::InvalidBase),
-        Found::Sums(_) => Verdict::Accepted,
+        Found::InvalidBase => true,
+        Found::Sums(_) => false,
     }
 }
 
-// The first of two verdicts that refuses.
-fn earlier(first: Verdict, second: Verdict) -> Verdict
-    ensures { λ r. ⌜ refusalOf r ≡ orElse (refusalOf first) (refusalOf second) ⌝ }
+// 21: Y is 0.
+fn has_no_flow(found: Found) -> bool
+    ensures { λ r. ⌜ r ≡ foundNoFlow found ⌝ }
 {
-    if let Verdict::Refused(refusal) = first {
-        return Verdict::Refused(refusal);
+    match found {
+        Found::InvalidBase => false,
+        Found::Sums(tally) => tally.flow == 0,
     }
-    second
 }
 
 // The answer from what was found in two lists that have passed their checks.
@@ -88,27 +99,27 @@ fn from_found(found: Found) -> Answer
 {
     match found {
         Found::InvalidBase => Answer::Refused(Refusal::InvalidBase),
-        Found::Sums(tally) => totals_of(tally),
+        Found::Sums(tally) => {
+            let totals = totals_of(tally);
+            Answer::Summed(totals)
+        }
     }
 }
 
-// The totals from the sums, unless Y is 0.
-fn totals_of(t: Tally) -> Answer
+// The totals from the sums.
+fn totals_of(t: Tally) -> Totals
     requires { ⌜ Room t × (t .base ≤ 1000 * t .flow) ⌝ }
-    ensures { λ r. ⌜ outcomeOf r ≡ outcomeOfSums t ⌝ }
+    ensures { λ r. ⌜ r ≡ totalsFrom t ⌝ }
 {
-    if t.flow == 0 {
-        return Answer::Refused(Refusal::NoFlow);
-    }
     let quick = quick_total(t.flow, t.base);
     let index = numbers::near(10 * t.base, t.flow);
-    Answer::Summed(Totals {
+    Totals {
         days: t.days,
         flow: t.flow,
         base: t.base,
         quick,
         index: index as u32,
-    })
+    }
 }
 
 // The quick total of a flow total and a base total.

@@ -6,17 +6,8 @@ use borrow.Author.Needs.{needs}
 use Rattle.baseflow.proofs.baseflow_filter.Statement.{statement}
 use Rattle.baseflow.proofs.baseflow_filter.Tie as tie
 
-filter-requires : tie.Need-filter-requires
-filter-requires c κs = search needs
-
-number-requires : tie.Need-number-requires
-number-requires c κs = search needs
-
-same-length : tie.Need-same-length
-same-length c = search needs
-
 returns : tie.Need-returns
 returns c = (c .number .ensures ∙ ap returnedCause (c .before .before .before .filter .ensures .0), c .before .before .before .filter .ensures .1)
 
 pub baseflow-filter-spec : {M : Type 1} → statement M
-baseflow-filter-spec = tie.close (tie.spec filter-requires number-requires same-length returns)
+baseflow-filter-spec = tie.close (tie.spec (λ c κs. search needs) (λ c κs. search needs) (λ c. search needs) returns)

@@ -6,17 +6,8 @@ use borrow.Author.Needs.{needs}
 use Rattle.baseflow.proofs.baseflow_line.Statement.{statement}
 use Rattle.baseflow.proofs.baseflow_line.Tie as tie
 
-line-requires : tie.Need-line-requires
-line-requires c κs = search needs
-
-number-requires : tie.Need-number-requires
-number-requires c κs = search needs
-
-same-length : tie.Need-same-length
-same-length c = search needs
-
 returns : tie.Need-returns
 returns c = (c .number .ensures ∙ ap returnedCause (c .before .before .before .line .ensures .0), c .before .before .before .line .ensures .1)
 
 pub baseflow-line-spec : {M : Type 1} → statement M
-baseflow-line-spec = tie.close (tie.spec line-requires number-requires same-length returns)
+baseflow-line-spec = tie.close (tie.spec (λ c κs. search needs) (λ c κs. search needs) (λ c. search needs) returns)

@@ -6,9 +6,6 @@ use borrow.Author.Needs.{needs}
 use Rattle.baseflow.proofs.state_of.Statement.{statement}
 use Rattle.baseflow.proofs.state_of.Tie as tie
 
-fresh-requires : tie.Need-fresh-requires
-fresh-requires c κs = search needs
-
 returns : tie.Need-returns
 unfolding stateOf
 returns c = simp (c .fresh .ensures, eq-eqb (c .before .before .args .has) 0 (c .before .if1 .taken))
@@ -18,4 +15,4 @@ unfolding stateOf
 returns-2 c = simp (ne-eqb (c .before .args .has) 0 (c .if1 .left))
 
 pub state-of-spec : {M : Type 1} → statement M
-state-of-spec = tie.close (tie.spec fresh-requires returns returns-2)
+state-of-spec = tie.close (tie.spec (λ c κs. search needs) returns returns-2)

@@ -2,15 +2,9 @@
 -- Assumes nothing.
 use mathlib.Core.Path.{sym, _∙_}
 use borrow.Author.Needs.{needs}
-use Rattle.minima.specs.Drawing.{outOfRange}
+use Rattle.minima.specs.Call.{outOfRange}
 use Rattle.minima.proofs.out_of_range.Statement.{statement}
 use Rattle.minima.proofs.out_of_range.Tie as tie
-
-within-requires : tie.Need-within-requires
-within-requires c κs = search needs
-
-within-requires-2 : tie.Need-within-requires-2
-within-requires-2 c κs = search needs
 
 returns : tie.Need-returns
 unfolding outOfRange
@@ -21,4 +15,4 @@ unfolding outOfRange
 returns-2 c = simp (sym (c .before .within .ensures) ∙ c .if1 .left)
 
 pub out-of-range-spec : {M : Type 1} → statement M
-out-of-range-spec = tie.close (tie.spec within-requires within-requires-2 returns returns-2)
+out-of-range-spec = tie.close (tie.spec (λ c κs. search needs) (λ c κs. search needs) returns returns-2)

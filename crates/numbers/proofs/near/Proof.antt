@@ -16,12 +16,6 @@ above-zero c = pos-of-ne-zero (c .if1 .left)
 returns : tie.Need-returns
 returns c = sym (ap (near (c .before .args .a)) (c .if1 .taken) ∙ near-by-zero (c .before .args .a))
 
-div-q : tie.Need-div-q
-div-q c = search needs
-
-rem-r : tie.Need-rem-r
-rem-r c = search needs
-
 sub-if2 : tie.Need-sub-if2
 sub-if2 c = le-of-lt (mod-lt (c .before .args .a) (above-zero c))
 
@@ -35,4 +29,4 @@ returns-3 : tie.Need-returns-3
 returns-3 c = sym (near-up (c .before .before .args .a) (c .before .before .args .b) (above-zero (c .before)) (c .if2 .left))
 
 pub near-spec : {M : Type 1} → statement M
-near-spec = tie.close (tie.spec returns div-q rem-r sub-if2 add-result returns-2 returns-3)
+near-spec = tie.close (tie.spec returns (λ c. search needs) (λ c. search needs) sub-if2 add-result returns-2 returns-3)

@@ -6,14 +6,8 @@ use Rattle.numbers.proofs.Rounding.{near-halved}
 use Rattle.numbers.proofs.near_small.Statement.{statement}
 use Rattle.numbers.proofs.near_small.Tie as tie
 
-add-result : tie.Need-add-result
-add-result c = search needs
-
-div-result : tie.Need-div-result
-div-result c = search needs
-
 returns : tie.Need-returns
 returns c = sym (near-halved (c .args .a) (c .args .b) (c .pre .0))
 
 pub near-small-spec : {M : Type 1} → statement M
-near-small-spec = tie.close (tie.spec add-result div-result returns)
+near-small-spec = tie.close (tie.spec (λ c. search needs) (λ c. search needs) returns)

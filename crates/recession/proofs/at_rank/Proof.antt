@@ -15,31 +15,16 @@ abbrev μ-loop : tie.MeasureT-loop
 loop-holds : tie.Need-loop-holds Inv-loop μ-loop
 loop-holds c = reached-start _ _ (c .pre .1 .0)
 
-mul-reached : tie.Need-mul-reached Inv-loop μ-loop
-mul-reached c = omega arith
-
-element-copy-out-reached : tie.Need-element-copy-out-reached Inv-loop μ-loop
-element-copy-out-reached c = omega arith
-
 add-reached : tie.Need-add-reached Inv-loop μ-loop
 add-reached c =
     let l = c .before in
     let s = l .before .before in
     record { fits = next-fits _ _ _ _ (s .pre .0) (l .before .loop .inv) (l .loop-test .taken) (s .pre .1 .2) }
 
-cast-result : tie.Need-cast-result Inv-loop μ-loop
-cast-result c = omega arith
-
 returns : tie.Need-returns Inv-loop μ-loop
 returns c =
     let l = c .before .before in
     found _ _ _ _ (l .before .before .pre .0) (l .before .loop .inv) (l .loop-test .taken) (c .if1 .taken)
-
-add-v : tie.Need-add-v Inv-loop μ-loop
-add-v c = omega arith
-
-loop-less : tie.Need-loop-less Inv-loop μ-loop
-loop-less c = omega arith
 
 loop-again : tie.Need-loop-again Inv-loop μ-loop
 loop-again c =
@@ -54,16 +39,5 @@ returns-2 c =
 pub at-rank-spec : {M : Type 1} → statement M
 at-rank-spec =
     tie.close
-    (tie.spec
-    Inv-loop
-    μ-loop
-    loop-holds
-    mul-reached
-    element-copy-out-reached
-    add-reached
-    cast-result
-    returns
-    add-v
-    loop-less
-    loop-again
-    returns-2)
+    (tie.spec Inv-loop μ-loop loop-holds (λ c. omega arith) (λ c. omega arith) add-reached (λ c. omega arith) returns
+    (λ c. omega arith) (λ c. omega arith) loop-again returns-2)

@@ -1,124 +1,85 @@
--- `recession::ratios` meets its contract: the tests that were passed are false, and the one that refuses holds; else the
--- histogram has the ratios, its cumulative counts find the median, and the limbs are listed.
+-- `recession::ratios` meets its contract: a check that refuses decides; else the histogram has the ratios, its cumulative
+-- counts find the median, and the limbs are listed.
 -- Assumes nothing.
-use mathlib.Core.Path.{_≡_, refl, sym, _∙_}
-use mathlib.Core.Bool.{false}
+use Prim.Native.Nat.{_*_, _≤_}
+use mathlib.Core.Path.{_≡_, refl}
 use native.Mathlib.Omega.{arith}
 use borrow.Author.Needs.{needs}
-use lib.ListN.{replicate}
+use lib.ListN.{length, replicate}
 use denote.Ref.{now}
-use Rattle.series.specs.Lists.{tooLong}
-use Rattle.recession.specs.Private.{walked, Tallied}
-use Rattle.recession.specs.Call.{limbDaysOutOfRange}
-use Rattle.recession.proofs.Outcomes.{all-zero, Checked, at-least-two, days-few, ratios-few, limbs-few, sized, rank-found, entries-fit, out-18, out-9, out-10, out-19, out-22, out-ratios, out-list}
+use Rattle.series.proofs.Refusing.{answer-refused, decided-accepted}
+use Rattle.recession.specs.Call.{ratioOutcome}
+use Rattle.recession.specs.Private.{limbsFrom, Tallied}
+use Rattle.recession.proofs.Outcomes.{all-zero, Checked, checked, out-refused, out-list, ratios-fit, limbs-fit, sized, rank-found, entries-fit, passed-both, all-decided, out-ratios}
 use Rattle.recession.proofs.ratios.Statement.{statement}
 use Rattle.recession.proofs.ratios.Tie as tie
 
-range : (c : tie.Else1) → limbDaysOutOfRange (c .before .before .before .before .args .shortest) ≡ false
-range c = sym (c .before .out-of-range .ensures) ∙ c .if1 .left
+-- behind the first check
+abbrev at-check : tie.After-enum-told → tie.After-check
+at-check c = c .before .before
 
-size : (c : tie.Else2) → tooLong (now (c .before .before .before .before .before .before .args .days)) ≡ false
-size c = sym (c .before .too-long .ensures) ∙ c .if2 .left
+abbrev start : tie.After-enum-told → tie.Start
+start c = at-check c .before .before .before
 
-checked : (c : tie.Else3) → Checked (c .before .before .before .before .before .before .before .before .args .shortest) (now (c .before .before .before .before .before .before .before .before .args .days))
-checked c =
-    let e = c .before .before in
-    record { range = range (e .before .before); size = size e; valid = sym (c .before .any-invalid-day .ensures) ∙ c .if3 .left }
-
-out-of-range-requires : tie.Need-out-of-range-requires
-out-of-range-requires c κs = search needs
-
-returns : tie.Need-returns
-returns c = (out-18 _ _ _ (sym (c .before .out-of-range .ensures) ∙ c .if1 .taken), refl)
-
-too-long-requires : tie.Need-too-long-requires
-too-long-requires c κs = search needs
-
-returns-2 : tie.Need-returns-2
-returns-2 c = (out-9 _ _ _ (range (c .before .before)) (sym (c .before .too-long .ensures) ∙ c .if2 .taken), refl)
-
-any-invalid-day-requires : tie.Need-any-invalid-day-requires
-any-invalid-day-requires c κs = search needs
-
-returns-3 : tie.Need-returns-3
-returns-3 c =
-    let e = c .before .before in
-    (out-10 _ _ _ (range (e .before .before)) (size e) (sym (c .before .any-invalid-day .ensures) ∙ c .if3 .taken), refl)
-
-tally-limbs-requires : tie.Need-tally-limbs-requires
-tally-limbs-requires c κs = ((at-least-two (checked (c .before)), days-few (checked (c .before))), (refl, all-zero 10001))
+ok : (c : tie.After-enum-told) → Checked (start c .args .shortest) (now (start c .args .days))
+ok c = checked _ _ (decided-accepted (at-check c .check .ensures) (c .enum-told .given .1))
 
 -- what the tally gives
-module _ (c : tie.After-tally-limbs) where
-  abbrev passed : tie.Else3
-  passed = c .before .before
+abbrev passed : tie.After-tally-limbs → tie.After-enum-told
+passed c = c .before .before
 
-  abbrev entry : tie.Start
-  entry = passed .before .before .before .before .before .before .before .before
+tallied : (c : tie.After-tally-limbs) → let s = start (passed c) .args in Tallied (limbsFrom (s .shortest) (now (s .days)) 0) (c .tally-limbs .result .limbs) (c .tally-limbs .result .ratios) (replicate 10001 0) (c .tally-limbs .last .1 .1 .0)
+tallied c = c .tally-limbs .ensures
 
-  abbrev tallied : Tallied (walked (entry .args .shortest) (now (entry .args .days))) (c .tally-limbs .result .limbs) (c .tally-limbs .result .ratios) (replicate 10001 0) (c .tally-limbs .last .1 .1 .0)
-  tallied = c .tally-limbs .ensures
+returns-2 : tie.Need-returns-2
+unfolding ratioOutcome
+returns-2 c =
+    let k = c .before .before .before in
+    let t = k .before in
+    (answer-refused (all-decided (ok (passed t)) _ (tallied t) _ (at-check (passed t) .check .ensures) (passed t .enum-told .given .1) (k .check-limbs .ensures)) _ (c .before .verdict2 .given .1), refl)
 
-cast-count : tie.Need-cast-count
-cast-count c = let t = c .before in omega (arith, ratios-few (checked (passed t)) (tallied t))
+-- behind the second check: there are ratios, and room
+abbrev found : tie.After-enum-told2 → tie.After-tally-limbs
+found c = c .before .before .before
 
-mul-needed : tie.Need-mul-needed
-mul-needed c = let t = c .before .before in omega (arith, limbs-few (checked (passed t)) (tallied t))
-
-returns-4 : tie.Need-returns-4
-returns-4 c = let t = c .before .before .before in (out-19 (checked (passed t)) (tallied t) _ (c .if4 .taken), refl)
-
-returns-5 : tie.Need-returns-5
-returns-5 c =
-    let t = c .before .before .before .before in
-    (out-22 (checked (passed t)) (tallied t) _ (c .before .if4 .left) (c .if5 .taken), refl)
+both : (c : tie.After-enum-told2) → let t = found c in (t .tally-limbs .result .ratios ≡ 0 → ⊥) × (2 * t .tally-limbs .result .limbs ≤ length (now (start (passed t) .args .limbs)))
+both c = passed-both (ok (passed (found c))) _ (tallied (found c)) (c .before .before .check-limbs .ensures) (c .enum-told2 .given .1)
 
 list-limbs-requires : tie.Need-list-limbs-requires
 list-limbs-requires c κs =
-    let t = c .before .before .before .before .before in
-    let k = checked (passed t) in
-    ((at-least-two k, days-few k), entries-fit k (tallied t) (c .before .if5 .left))
+    let t = found (c .before) in
+    let k = ok (passed t) in
+    ((k .two, k .few), entries-fit k _ (tallied t) (both (c .before) .1))
 
--- the way to the median: what the tally gave
-abbrev tally : tie.After-slice-known2 → tie.After-tally-limbs
-tally c = c .before .before .before .before .before .before .before .before
+-- behind the limb list
+abbrev listed : tie.After-struct-known → tie.After-enum-told2
+listed c = c .before .before .before .before .before
 
-add-rank : tie.Need-add-rank
-add-rank c = let t = tally c in omega (arith, ratios-few (checked (passed t)) (tallied t))
+few : (c : tie.After-struct-known) → found (listed c) .tally-limbs .result .ratios ≤ 36525
+few c = let t = found (listed c) in ratios-fit (ok (passed t)) _ (tallied t)
 
 at-rank-requires : tie.Need-at-rank-requires
 at-rank-requires c κs =
-    let t = tally (c .before) in
-    let k = checked (passed t) in
-    (sized k (tallied t), rank-found k (tallied t) (c .before .before .before .before .before .before .if4 .left))
+    let l = listed (c .before) in
+    let t = found l in
+    let k = ok (passed t) in
+    (sized k _ (tallied t), rank-found k _ (tallied t) (both l .0))
 
-same-length : tie.Need-same-length
-same-length c = search needs
-
-returns-6 : tie.Need-returns-6
-returns-6 c =
-    let e = c .before .before .before .before .before .before in
-    let t = tally (c .before .before) in
-    let k = checked (passed t) in
-    (out-ratios k (tallied t) _ (e .before .if4 .left) (e .if5 .left) (c .at-rank .ensures), out-list k (c .before .before .before .before .list-limbs .ensures))
+returns-3 : tie.Need-returns-3
+returns-3 c =
+    let s = c .before .before in
+    let l = listed s in
+    let t = found l in
+    let k = ok (passed t) in
+    let d = all-decided k _ (tallied t) _ (at-check (passed t) .check .ensures) (passed t .enum-told .given .1) (l .before .before .check-limbs .ensures) in
+    (out-ratios k _ (tallied t) _ (c .at-rank .ensures) (decided-accepted d (l .enum-told2 .given .1)), out-list k (s .before .before .before .list-limbs .ensures))
 
 pub ratios-spec : {M : Type 1} → statement M
 ratios-spec =
     tie.close
-    (tie.spec
-    out-of-range-requires
-    returns
-    too-long-requires
-    returns-2
-    any-invalid-day-requires
-    returns-3
-    tally-limbs-requires
-    cast-count
-    mul-needed
-    returns-4
-    returns-5
-    list-limbs-requires
-    add-rank
-    at-rank-requires
-    same-length
-    returns-6)
+    (tie.spec (λ c κs. search needs) (λ c. search needs)
+    (λ c. (out-refused _ _ _ (c .before .before .before .check .ensures) (c .before .verdict .given .1), refl))
+    (λ c. search needs) (λ c κs. let k = ok (c .before) in ((k .two, k .few), (refl, all-zero 10001)))
+    (λ c κs. limbs-fit (ok (passed c)) _ (tallied c)) (λ c. search needs) returns-2 (λ c. search needs)
+    list-limbs-requires (λ c. omega (arith, few c)) (λ c. omega (arith, few c)) at-rank-requires (λ c. search needs)
+    returns-3)

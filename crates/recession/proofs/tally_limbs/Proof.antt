@@ -1,142 +1,64 @@
--- `recession::tally_limbs` meets its contract: what is tallied and what is left from `start` on add up to the whole.
+-- `recession::tally_limbs` meets its contract: what is tallied, and what is left from the limb in hand on, add up to the
+-- whole.
 -- Assumes nothing.
-use Prim.Native.Nat.{ℕ, _-_, _≤_, _<_}
-use mathlib.Core.Path.{_≡_}
-use mathlib.Core.Bool.{Bool}
-use mathlib.Core.List.{List, _∷_}
+use Prim.Native.Nat.{_+_, _-_, _≤_}
 use native.Mathlib.Omega.{arith}
 use lib.ListN.{length}
-use denote.Ref.{now}
-use Rattle.recession.specs.Limbs.{Limb, Falling, hasAtLeast}
 use Rattle.recession.specs.Ratios.{limbRatios}
 use Rattle.recession.specs.Private.{limbsFrom}
-use Rattle.recession.proofs.Walk.{runAt, run-after, run-within, run-size, run-falls, counts-here, short-here, no-more}
-use Rattle.recession.proofs.Tallying.{at-most-a-day, ratios-at-most-a-day, Tallying, tallying-start, tallying-same, tallying-room, tallying-fits, tallying-next, tallying-done}
+use Rattle.recession.proofs.Walk.{InHand, in-hand, the-limb, limb-size}
+use Rattle.recession.proofs.Selection.{limbs-few, ratios-few}
+use Rattle.recession.proofs.Tallying.{Tallying, tallying-start, tallying-room, tallying-fits, tallying-next, tallying-done}
 use Rattle.recession.proofs.tally_limbs.Statement.{statement}
 use Rattle.recession.proofs.tally_limbs.Tie as tie
 
 abbrev Inv-loop : tie.InvT-loop
-Inv-loop shortest days counts₀ limbs₀ ratios₀ start₀ counts limbs ratios start =
-    Tallying (limbsFrom (hasAtLeast shortest) days 0) (limbsFrom (hasAtLeast shortest) days start) counts₀ counts limbs ratios
+Inv-loop shortest days counts₀ limbs₀ ratios₀ limb₀ counts limbs ratios limb =
+    (i : InHand shortest days (limb .first) (limb .end)) × Tallying (limbsFrom shortest days 0) (limbsFrom shortest days (i .from)) counts₀ counts limbs ratios
 
 abbrev μ-loop : tie.MeasureT-loop
-μ-loop shortest days counts₀ limbs₀ ratios₀ start₀ counts limbs ratios start = length days - start
+μ-loop shortest days counts₀ limbs₀ ratios₀ limb₀ counts limbs ratios limb = length days - limb .first
 
-loop-holds : tie.Need-loop-holds Inv-loop μ-loop
-loop-holds c = tallying-start _ _
+abbrev at : tie.Then1 Inv-loop μ-loop → tie.At-loop Inv-loop μ-loop
+at c = c .before .before
 
-run-end-requires : tie.Need-run-end-requires Inv-loop μ-loop
-run-end-requires c κs = c .loop-test .taken
+abbrev start : tie.Then1 Inv-loop μ-loop → tie.Start Inv-loop μ-loop
+start c = at c .before .before .before
 
-after : (c : tie.After-run-end Inv-loop μ-loop) → c .before .before .loop .start < c .run-end .result
-after c = run-after _ _ (c .before .loop-test .taken) (c .run-end .ensures)
+inside : (c : tie.Then1 Inv-loop μ-loop) → at c .loop .limb .end ≤ length (start c .args .days .now)
+inside c = the-limb (at c .loop .inv .0) (c .if1 .taken) .inside
 
-within : (c : tie.After-run-end Inv-loop μ-loop) → c .run-end .result ≤ length (now (c .before .before .before .before .args .days))
-within c = run-within _ _ (c .before .loop-test .taken) (c .run-end .ensures)
-
-sub-length : tie.Need-sub-length Inv-loop μ-loop
-sub-length c = omega (arith, after c)
-
-mul-tally-pairs : tie.Need-mul-tally-pairs Inv-loop μ-loop
-mul-tally-pairs c = omega arith
-
-sub-tally-pairs : tie.Need-sub-tally-pairs Inv-loop μ-loop
-sub-tally-pairs c = omega (arith, after (c .before))
-
-part-tally-pairs-start : tie.Need-part-tally-pairs-start Inv-loop μ-loop
-part-tally-pairs-start c = omega (arith, after (c .before))
-
-part-tally-pairs-end : tie.Need-part-tally-pairs-end Inv-loop μ-loop
-part-tally-pairs-end c = within (c .before)
-
--- a run that counts
-module _ (c : tie.Then1 Inv-loop μ-loop) where
-  abbrev at : tie.At-loop Inv-loop μ-loop
-  at = c .before .before .before
-
-  abbrev entry : tie.Start Inv-loop μ-loop
-  entry = at .before .before
-
-  abbrev days : List ℕ
-  days = now (entry .args .days)
-
-  abbrev picks : Limb → Bool
-  picks = hasAtLeast (entry .args .shortest)
-
-  abbrev end : ℕ
-  end = c .before .run-end .result
-
-  here : limbsFrom picks days (at .loop .start) ≡ runAt days (at .loop .start) end ∷ limbsFrom picks days end
-  here = counts-here _ _ (c .before .before .loop-test .taken) (c .before .run-end .ensures) _ (entry .pre .0 .0) (c .if1 .taken)
-
-  size : length (runAt days (at .loop .start) end .flows) ≡ end - at .loop .start
-  size = run-size _ _ (c .before .before .loop-test .taken) (c .before .run-end .ensures)
-
-  falls : Falling (runAt days (at .loop .start) end .flows)
-  falls = run-falls _ _ (c .before .before .loop-test .taken) (c .before .run-end .ensures)
-
-  few : length (limbRatios (limbsFrom picks days 0)) ≤ length days
-  few = ratios-at-most-a-day picks days
+few : (c : tie.Then1 Inv-loop μ-loop) → length (limbRatios (limbsFrom (start c .args .shortest) (start c .args .days .now) 0)) ≤ 36525
+few c = omega (arith, ratios-few (start c .args .shortest) (start c .args .days .now), start c .pre .0 .1)
 
 tally-pairs-requires : tie.Need-tally-pairs-requires Inv-loop μ-loop
 tally-pairs-requires c κs =
     let t = c .before .before in
-    (falls t, (omega (arith, at t .loop .inv .size, entry t .pre .1 .0), tallying-room (at t .loop .inv) (here t) (entry t .pre .1 .1) (omega (arith, few t, entry t .pre .0 .1))))
+    let i = at t .loop .inv in
+    let l = the-limb (i .0) (t .if1 .taken) in
+    (l .falling, (omega (arith, i .1 .size, start t .pre .1 .0), tallying-room (i .1) (l .next) (start t .pre .1 .1) (omega (arith, few t))))
 
-add-limbs : tie.Need-add-limbs Inv-loop μ-loop
-add-limbs c =
-    let t = c .before .before .before in
-    omega (arith, tallying-fits (at t .loop .inv) (here t) (size t) .0, at-most-a-day (picks t) (days t), entry t .pre .0 .1)
-
-sub-ratios : tie.Need-sub-ratios Inv-loop μ-loop
-sub-ratios c = omega (arith, after (c .before .before .before .before))
-
-add-ratios : tie.Need-add-ratios Inv-loop μ-loop
-add-ratios c =
-    let t = c .before .before .before in
-    omega (arith, tallying-fits (at t .loop .inv) (here t) (size t) .1, few t, entry t .pre .0 .1)
-
-loop-less : tie.Need-loop-less Inv-loop μ-loop
-loop-less c = omega (arith, after (c .before .before .before .before))
+-- one limb more, and its ratios
+fits : (c : tie.Then1 Inv-loop μ-loop) → let l = at c .loop in (l .limbs ≤ 36524) × (l .ratios + (l .limb .end - l .limb .first - 1) ≤ 36525)
+fits c =
+    let i = at c .loop .inv in
+    let f = tallying-fits (i .1) (the-limb (i .0) (c .if1 .taken) .next) (limb-size (i .0) (c .if1 .taken)) in
+    (omega (arith, f .0, limbs-few (start c .args .shortest) (start c .args .days .now), start c .pre .0 .1), omega (arith, f .1, few c))
 
 loop-again : tie.Need-loop-again Inv-loop μ-loop
 loop-again c =
-    let t = c .before .before .before in
-    tallying-next (at t .loop .inv) (here t) (size t) (c .tally-pairs .ensures)
-
-loop-less-2 : tie.Need-loop-less-2 Inv-loop μ-loop
-loop-less-2 c = omega (arith, after (c .before))
-
-loop-again-2 : tie.Need-loop-again-2 Inv-loop μ-loop
-loop-again-2 c =
-    let l = c .before .before in
-    tallying-same (short-here _ _ (l .loop-test .taken) (c .before .run-end .ensures) _ (l .before .before .before .pre .0 .0) (c .if1 .left)) (l .before .loop .inv)
-
-returns : tie.Need-returns Inv-loop μ-loop
-returns c =
-    let t = c .before .loop .inv in
-    let e = no-more _ _ _ (c .loop-test .left) in
-    tallying-done t e
+    let t = c .before .before .before .before in
+    let i = at t .loop .inv in
+    (in-hand (c .next-limb2 .ensures), tallying-next (i .1) (the-limb (i .0) (t .if1 .taken) .next) (limb-size (i .0) (t .if1 .taken)) (c .before .tally-pairs .ensures))
 
 pub tally-limbs-spec : {M : Type 1} → statement M
 tally-limbs-spec =
     tie.close
-    (tie.spec
-    Inv-loop
-    μ-loop
-    loop-holds
-    run-end-requires
-    sub-length
-    mul-tally-pairs
-    sub-tally-pairs
-    part-tally-pairs-start
-    part-tally-pairs-end
-    tally-pairs-requires
-    add-limbs
-    sub-ratios
-    add-ratios
-    loop-less
+    (tie.spec Inv-loop μ-loop (λ c κs. c .before .pre .0 .0)
+    (λ c. (in-hand (c .next-limb .ensures), tallying-start _ _)) (λ c. omega (arith, inside c, start c .pre .0 .1))
+    (λ c. omega arith) (λ c. omega arith) (λ c. inside c) tally-pairs-requires
+    (λ c. omega (arith, fits (c .before .before .before) .0)) (λ c. omega arith) (λ c. omega arith)
+    (λ c. omega (arith, fits (c .before .before .before) .1)) (λ c κs. start (c .before .before .before) .pre .0 .0)
+    (λ c. let t = c .before .before .before .before in omega (arith, c .next-limb2 .ensures .onward, inside t))
     loop-again
-    loop-less-2
-    loop-again-2
-    returns)
+    (λ c. let i = c .before .before .loop .inv in tallying-done (i .1) (i .0 .search .nowhere (c .if1 .left))))

@@ -18,21 +18,6 @@ abbrev μ-loop : tie.MeasureT-loop
 loop-holds : tie.Need-loop-holds Inv-loop μ-loop
 loop-holds c = counting-start _ _
 
-sub-ratio : tie.Need-sub-ratio Inv-loop μ-loop
-sub-ratio c = omega arith
-
-mul-ratio : tie.Need-mul-ratio Inv-loop μ-loop
-mul-ratio c = omega arith
-
-shared-slice-read-ratio : tie.Need-shared-slice-read-ratio Inv-loop μ-loop
-shared-slice-read-ratio c = omega arith
-
-mul-ratio-2 : tie.Need-mul-ratio-2 Inv-loop μ-loop
-mul-ratio-2 c = omega arith
-
-shared-slice-read-ratio-2 : tie.Need-shared-slice-read-ratio-2 Inv-loop μ-loop
-shared-slice-read-ratio-2 c = omega arith
-
 ratio-requires : tie.Need-ratio-requires Inv-loop μ-loop
 ratio-requires c κs =
     let l = c .before .before in
@@ -56,12 +41,6 @@ add-counts c =
 element-write-counts : tie.Need-element-write-counts Inv-loop μ-loop
 element-write-counts c = omega (arith, small (c .before))
 
-add-t : tie.Need-add-t Inv-loop μ-loop
-add-t c = omega arith
-
-loop-less : tie.Need-loop-less Inv-loop μ-loop
-loop-less c = omega arith
-
 loop-again : tie.Need-loop-again Inv-loop μ-loop
 loop-again c =
     let l = c .before .before .before .before in
@@ -73,21 +52,6 @@ returns c = counting-done _ _ _ _ (c .before .loop .inv) (c .loop-test .left)
 pub tally-pairs-spec : {M : Type 1} → statement M
 tally-pairs-spec =
     tie.close
-    (tie.spec
-    Inv-loop
-    μ-loop
-    loop-holds
-    sub-ratio
-    mul-ratio
-    shared-slice-read-ratio
-    mul-ratio-2
-    shared-slice-read-ratio-2
-    ratio-requires
-    mul-counts
-    element-copy-out-counts
-    add-counts
-    element-write-counts
-    add-t
-    loop-less
-    loop-again
-    returns)
+    (tie.spec Inv-loop μ-loop loop-holds (λ c. omega arith) (λ c. omega arith) (λ c. omega arith) (λ c. omega arith)
+    (λ c. omega arith) ratio-requires mul-counts element-copy-out-counts add-counts element-write-counts
+    (λ c. omega arith) (λ c. omega arith) loop-again returns)

@@ -6,8 +6,8 @@ use borrow.Author.Needs.{needs}
 use lib.ListN.{length}
 use denote.Ref.{now}
 use Rattle.series.specs.Causes.{Outcome}
-use Rattle.record.specs.Reading.{Stated, reading}
-use Rattle.record.specs.Steps.{isAccepted}
+use Rattle.record.specs.Call.{Stated, reading}
+use Rattle.record.specs.Private.{isAccepted}
 use Rattle.record.proofs.Accepting.{same-verdict, kept}
 use Rattle.record.proofs.Tests.{told}
 use Rattle.record.proofs.read.Statement.{statement}
@@ -30,10 +30,5 @@ returns-2 c =
 pub read-spec : {M : Type 1} → statement M
 read-spec =
     tie.close
-    (tie.spec
-    (λ c. search needs)
-    (λ c. search needs)
-    write-days-requires
-    (λ c. search needs)
-    (λ c. search needs)
+    (tie.spec (λ c. search needs) (λ c. search needs) write-days-requires (λ c. search needs) (λ c. search needs)
     returns-2)

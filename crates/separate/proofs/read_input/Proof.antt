@@ -1,12 +1,12 @@
 -- `separate::read_input` is safe, ends, and answers no more bytes than the buffer has.
 -- Assumes nothing.
-use Prim.Native.Nat.{_-_, _≤_}
-use mathlib.Core.Path.{_≡_, refl, _∙_}
+use Prim.Native.Nat.{_+_, _-_, _≤_}
+use mathlib.Core.Path.{_≡_, refl, _∙_, subst}
 use native.Mathlib.Omega.{arith}
 use lib.ListN.{length, drop, length-take, length-drop}
 use borrow.Author.Needs.{needs}
 use borrow.Rule.Slice.PartMut.{same-len-mid}
-use Rattle.separate.proofs.Reading.{fits}
+use Rattle.separate.specs.Private.{FitsInto}
 use Rattle.separate.proofs.read_input.Statement.{statement}
 use Rattle.separate.proofs.read_input.Tie as tie
 
@@ -19,79 +19,27 @@ abbrev μ-loop : tie.MeasureT-loop
 loop-holds : tie.Need-loop-holds Inv-loop μ-loop
 loop-holds c = (omega arith, refl)
 
-sub-read-part : tie.Need-sub-read-part Inv-loop μ-loop
-sub-read-part c = search needs
+-- the turn and its read, from where bytes were read; they fit behind those read before
+abbrev turn : (c : tie.Else1 Inv-loop μ-loop) → tie.At-loop Inv-loop μ-loop
+turn c = c .before .before .before .before .before .before .before .before .before
 
-part-read-part-start : tie.Need-part-read-part-start Inv-loop μ-loop
-part-read-part-start c = search needs
+abbrev read : (c : tie.Else1 Inv-loop μ-loop) → tie.After-read-part Inv-loop μ-loop
+read c = c .before .before .before .before .before .before
 
-part-read-part-end : tie.Need-part-read-part-end Inv-loop μ-loop
-part-read-part-end c = search needs
-
-read-part-requires : tie.Need-read-part-requires Inv-loop μ-loop
-read-part-requires c κs = search needs
-
-enum-known-part : tie.Need-enum-known-part Inv-loop μ-loop
-enum-known-part c = search needs
-
-enum-told : tie.Need-enum-told Inv-loop μ-loop
-enum-told c = search needs
-
-same-length : tie.Need-same-length Inv-loop μ-loop
-same-length c = search needs
-
-returns : tie.Need-returns Inv-loop μ-loop
-returns c = search needs
-
-same-length-2 : tie.Need-same-length-2 Inv-loop μ-loop
-same-length-2 c = search needs
-
-returns-2 : tie.Need-returns-2 Inv-loop μ-loop
-returns-2 c = search needs
-
-add-at : tie.Need-add-at Inv-loop μ-loop
-add-at c =
-    let l = c .before .before .before .before .before .before .before .before .before .loop in
-    let read = c .before .before .before .before .before .before .read-part in
-    omega (arith, fits (read .last .0) (c .before .before .part .given .1) (read .ensures), read .kept .0, length-take (length (l .bytes) - l .at) (drop (l .at) (l .bytes)), length-drop (l .at) (l .bytes))
-
-loop-less : tie.Need-loop-less Inv-loop μ-loop
-loop-less c = search needs
+fits : (c : tie.Else1 Inv-loop μ-loop) → turn c .loop .at + c .before .before .part .given .0 .0 ≤ length (turn c .loop .bytes)
+fits c =
+    let l = turn c .loop in
+    omega (arith, subst (λ x. FitsInto x (length (read c .read-part .last .0))) (c .before .before .part .given .1) (read c .read-part .ensures), read c .read-part .kept .0, length-take (length (l .bytes) - l .at) (drop (l .at) (l .bytes)), length-drop (l .at) (l .bytes))
 
 loop-again : tie.Need-loop-again Inv-loop μ-loop
 loop-again c =
-    let l = c .before .before .before .before .before .before .before .before .before .loop in
-    let read = c .before .before .before .before .before .before .read-part in
-    let whole = same-len-mid (l .at) (length (l .bytes) - l .at) (l .bytes) (read .last .0) (read .kept .0) in (
-      omega (arith, whole, fits (read .last .0) (c .before .before .part .given .1) (read .ensures), read .kept .0, length-take (length (l .bytes) - l .at) (drop (l .at) (l .bytes)), length-drop (l .at) (l .bytes)),
-      whole ∙ l .inv .1,
-    )
-
-same-length-3 : tie.Need-same-length-3 Inv-loop μ-loop
-same-length-3 c = search needs
-
-returns-3 : tie.Need-returns-3 Inv-loop μ-loop
-returns-3 c = search needs
+    let whole = same-len-mid (turn c .loop .at) (length (turn c .loop .bytes) - turn c .loop .at) (turn c .loop .bytes) (read c .read-part .last .0) (read c .read-part .kept .0) in
+    (omega (arith, whole, fits c), whole ∙ turn c .loop .inv .1)
 
 pub read-input-spec : {M : Type 1} → statement M
 read-input-spec =
     tie.close
-    (tie.spec
-    Inv-loop
-    μ-loop
-    loop-holds
-    sub-read-part
-    part-read-part-start
-    part-read-part-end
-    read-part-requires
-    enum-known-part
-    enum-told
-    same-length
-    returns
-    same-length-2
-    returns-2
-    add-at
-    loop-less
-    loop-again
-    same-length-3
-    returns-3)
+    (tie.spec Inv-loop μ-loop loop-holds (λ c. search needs) (λ c. search needs) (λ c. search needs)
+    (λ c κs. search needs) (λ c. search needs) (λ c. search needs) (λ c. search needs) (λ c. search needs)
+    (λ c. search needs) (λ c. search needs) (λ c. omega (arith, fits c)) (λ c. search needs) loop-again
+    (λ c. search needs) (λ c. search needs))

@@ -18,26 +18,11 @@ Inv-loop days invalid₀ i₀ invalid i = anyInvalidDay days ≡ (invalid || any
 abbrev μ-loop : tie.MeasureT-loop
 μ-loop days invalid₀ i₀ invalid i = length days - i
 
-loop-holds : tie.Need-loop-holds Inv-loop μ-loop
-loop-holds c = refl
-
-mul-is-invalid-day : tie.Need-mul-is-invalid-day Inv-loop μ-loop
-mul-is-invalid-day c = omega arith
-
-shared-slice-read-is-invalid-day : tie.Need-shared-slice-read-is-invalid-day Inv-loop μ-loop
-shared-slice-read-is-invalid-day c = omega arith
-
 is-invalid-day-requires : tie.Need-is-invalid-day-requires Inv-loop μ-loop
 is-invalid-day-requires c κs = tt
 
 either-requires : tie.Need-either-requires Inv-loop μ-loop
 either-requires c κs = tt
-
-add-i : tie.Need-add-i Inv-loop μ-loop
-add-i c = omega arith
-
-loop-less : tie.Need-loop-less Inv-loop μ-loop
-loop-less c = omega arith
 
 loop-again : tie.Need-loop-again Inv-loop μ-loop
 loop-again c =
@@ -52,15 +37,5 @@ returns c =
 pub any-invalid-day-spec : {M : Type 1} → statement M
 any-invalid-day-spec =
     tie.close
-    (tie.spec
-    Inv-loop
-    μ-loop
-    loop-holds
-    mul-is-invalid-day
-    shared-slice-read-is-invalid-day
-    is-invalid-day-requires
-    either-requires
-    add-i
-    loop-less
-    loop-again
-    returns)
+    (tie.spec Inv-loop μ-loop (λ c. refl) (λ c. omega arith) (λ c. omega arith) is-invalid-day-requires either-requires
+    (λ c. omega arith) (λ c. omega arith) loop-again returns)

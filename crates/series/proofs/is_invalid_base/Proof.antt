@@ -14,12 +14,9 @@ returns-2 : tie.Need-returns-2
 unfolding isInvalidBase
 returns-2 c = rw (base-value _ (c .before .if1 .left), day-missing _ (c .if2 .taken))
 
-mul-result : tie.Need-mul-result
-mul-result c = search needs
-
 returns-3 : tie.Need-returns-3
 unfolding isInvalidBase
 returns-3 c = rw (base-value _ (c .before .if1 .left), day-present _ (c .if2 .left))
 
 pub is-invalid-base-spec : {M : Type 1} → statement M
-is-invalid-base-spec = tie.close (tie.spec returns returns-2 mul-result returns-3)
+is-invalid-base-spec = tie.close (tie.spec returns returns-2 (λ c. search needs) returns-3)

@@ -5,12 +5,12 @@ use mathlib.Core.Path.{refl, sym, _∙_}
 use native.Mathlib.Omega.{arith}
 use lib.ListN.{length}
 use denote.Ref.{now}
-use Rattle.totals.proofs.Summing.{Summed, sums-start, has-room, found-invalid, sums-turn, sums-end}
+use Rattle.totals.proofs.Summing.{SumsSoFar, sums-start, has-room, found-invalid, sums-turn, sums-end}
 use Rattle.totals.proofs.sums.Statement.{statement}
 use Rattle.totals.proofs.sums.Tie as tie
 
 abbrev Inv-loop : tie.InvT-loop
-Inv-loop days base tally₀ i₀ tally i = Summed days base tally i
+Inv-loop days base tally₀ i₀ tally i = SumsSoFar days base tally i
 
 abbrev μ-loop : tie.MeasureT-loop
 μ-loop days base tally₀ i₀ tally i = length days - i
@@ -18,17 +18,8 @@ abbrev μ-loop : tie.MeasureT-loop
 loop-holds : tie.Need-loop-holds Inv-loop μ-loop
 loop-holds c = let s = c .before .before in sums-start (now (s .args .days)) (now (s .args .base)) refl refl refl
 
-mul-day : tie.Need-mul-day Inv-loop μ-loop
-mul-day c = omega arith
-
-shared-slice-read-day : tie.Need-shared-slice-read-day Inv-loop μ-loop
-shared-slice-read-day c = omega arith
-
 mul-value : tie.Need-mul-value Inv-loop μ-loop
 mul-value c = omega (arith, c .before .before .before .before .before .pre .0)
-
-shared-slice-read-value : tie.Need-shared-slice-read-value Inv-loop μ-loop
-shared-slice-read-value c = omega arith
 
 is-invalid-base-requires : tie.Need-is-invalid-base-requires Inv-loop μ-loop
 is-invalid-base-requires c κs = tt
@@ -45,12 +36,6 @@ with-day-requires c κs =
     let s = l .before .before .before in
     (has-room (now (s .args .days)) (now (s .args .base)) (s .pre .0) (s .pre .1) (l .loop .inv), sym (c .before .is-invalid-base .ensures) ∙ c .if1 .left)
 
-add-i : tie.Need-add-i Inv-loop μ-loop
-add-i c = omega arith
-
-loop-less : tie.Need-loop-less Inv-loop μ-loop
-loop-less c = omega arith
-
 loop-again : tie.Need-loop-again Inv-loop μ-loop
 loop-again c =
     let l = c .before .before .before .before .before .before in
@@ -65,18 +50,5 @@ returns-2 c =
 pub sums-spec : {M : Type 1} → statement M
 sums-spec =
     tie.close
-    (tie.spec
-    Inv-loop
-    μ-loop
-    loop-holds
-    mul-day
-    shared-slice-read-day
-    mul-value
-    shared-slice-read-value
-    is-invalid-base-requires
-    returns
-    with-day-requires
-    add-i
-    loop-less
-    loop-again
-    returns-2)
+    (tie.spec Inv-loop μ-loop loop-holds (λ c. omega arith) (λ c. omega arith) mul-value (λ c. omega arith)
+    is-invalid-base-requires returns with-day-requires (λ c. omega arith) (λ c. omega arith) loop-again returns-2)

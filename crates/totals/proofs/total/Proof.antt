@@ -1,107 +1,63 @@
--- `totals::total` meets its contract: the first test that refuses decides; where none does, the sums give the totals.
+-- `totals::total` meets its contract: the sums are taken over the front that both lists share; a check that refuses
+-- decides, and where none does the sums give the totals.
 -- Assumes nothing.
-use Prim.Native.Nat.{ℕ, _≤_, min}
-use mathlib.Core.List.{List}
-use mathlib.Core.Option.{orElse}
-use mathlib.Core.Path.{_≡_, sym, _∙_, ap, ap₂}
+use Prim.Native.Nat.{_≤_, min}
+use mathlib.Core.Path.{_≡_, sym, _∙_, ap, subst}
+use native.Mathlib.Nat.{min-le-left, min-le-right}
+use native.Mathlib.Omega.{arith}
 use lib.ListN.{length, take}
 use lib.Seq.{length-take-le}
-use native.Mathlib.Omega.{arith}
 use borrow.Author.Needs.{needs}
 use denote.Ref.{now}
 use Rattle.series.specs.Units.{dayLimit}
-use Rattle.series.specs.Lists.{listCauses}
-use Rattle.series.specs.Causes.{refusalOf, firstCause}
-use Rattle.totals.specs.Finding.{refusalFound}
-use Rattle.totals.proofs.Outcomes.{front-fits, refused-first, answered, bounded}
+use Rattle.series.proofs.Refusing.{decided-accepted, answer-refused}
+use Rattle.totals.specs.Call.{totalsOutcome}
+use Rattle.totals.specs.Private.{FoundIn, FoundInFront, frontLength}
+use Rattle.totals.proofs.Outcomes.{bounded, answered}
 use Rattle.totals.proofs.total.Statement.{statement}
 use Rattle.totals.proofs.total.Tie as tie
 
-abbrev days-of : tie.Start → List ℕ
-days-of s = now (s .args .days)
+abbrev start : tie.After-least2 → tie.Start
+start c = c .before .before .before .before
 
-abbrev base-of : tie.Start → List ℕ
-base-of s = now (s .args .base)
-
--- how many days are looked at
-front : (c : tie.After-least2) → let s = c .before .before .before .before .before in c .least2 .result ≡ min (min (length (days-of s)) (length (base-of s))) dayLimit
+front : (c : tie.After-least2) → c .least2 .result ≡ frontLength (now (start c .args .days)) (now (start c .args .base))
 front c = c .least2 .ensures ∙ ap (λ k. min k dayLimit) (c .before .least .ensures)
 
-fits : (c : tie.After-least2) → let s = c .before .before .before .before .before in (c .least2 .result ≤ length (days-of s)) × (c .least2 .result ≤ length (base-of s)) × (c .least2 .result ≤ dayLimit)
-fits c = let s = c .before .before .before .before .before in front-fits (c .least2 .result) (length (days-of s)) (length (base-of s)) dayLimit (front c)
-
--- the verdict of both tests
-verdict-is : (c : tie.After-earlier) → refusalOf (c .earlier .result) ≡ orElse (firstCause (listCauses (days-of (c .before .before .before .before .before .before .before .before .before .before)) (base-of (c .before .before .before .before .before .before .before .before .before .before)))) (refusalFound (c .before .before .sums .result))
-verdict-is c = c .earlier .ensures ∙ ap₂ orElse (c .before .before .before .before .before .before .before .check-lists .ensures) (c .before .check-base .ensures)
-
-check-lists-requires : tie.Need-check-lists-requires
-check-lists-requires c κs = search needs
-
-least-requires : tie.Need-least-requires
-least-requires c κs = search needs
-
-least-requires-2 : tie.Need-least-requires-2
-least-requires-2 c κs = search needs
-
-slice-aggregate-sums : tie.Need-slice-aggregate-sums
-slice-aggregate-sums c = sym (length-take-le _ _ (fits (c .before) .0))
-
-slice-aggregate-sums-2 : tie.Need-slice-aggregate-sums-2
-slice-aggregate-sums-2 c = sym (length-take-le _ _ (fits (c .before .before) .1))
+fits : (c : tie.After-least2) → (c .least2 .result ≤ length (now (start c .args .days))) × (c .least2 .result ≤ length (now (start c .args .base))) × (c .least2 .result ≤ dayLimit)
+fits c =
+    let a = length (now (start c .args .days)) in
+    let b = length (now (start c .args .base)) in
+    let h = min-le-left (min a b) dayLimit in
+    (omega (arith, front c, h, min-le-left a b), omega (arith, front c, h, min-le-right a b), omega (arith, front c, min-le-right (min a b) dayLimit))
 
 sums-requires : tie.Need-sums-requires
 sums-requires c κs =
-    let f = fits (c .before .before) in
-    let s = c .before .before .before .before .before .before .before in
-    let n = c .before .before .least2 .result in
-    let d = length-take-le n (days-of s) (f .0) in
-    (d ∙ sym (length-take-le n (base-of s) (f .1)), omega (arith, d, f .2))
+    let l = c .before .before in
+    let f = fits l in
+    let d = length-take-le _ (now (start l .args .days)) (f .0) in
+    (d ∙ sym (length-take-le _ (now (start l .args .base)) (f .1)), omega (arith, d, f .2))
 
-check-base-requires : tie.Need-check-base-requires
-check-base-requires c κs = search needs
-
-earlier-requires : tie.Need-earlier-requires
-earlier-requires c κs = search needs
-
-enum-known-verdict : tie.Need-enum-known-verdict
-enum-known-verdict c = search needs
+-- what was found
+found : (c : tie.After-sums) → let s = start (c .before .before .before) .args in FoundInFront (now (s .days)) (now (s .base)) (c .sums .result)
+found c =
+    let l = c .before .before .before in
+    subst (λ n. FoundIn (take n (now (start l .args .days))) (take n (now (start l .args .base))) (c .sums .result)) (front l) (c .sums .ensures)
 
 returns : tie.Need-returns
-returns c =
-    let l = c .before .before .before .before .before .before .before .before in
-    let s = l .before .before .before .before .before in
-    refused-first (days-of s) (base-of s) (l .least2 .result) (front l) (c .before .before .before .before .before .sums .result) (c .before .before .before .before .before .sums .ensures) (sym (ap refusalOf (c .before .verdict .given .1)) ∙ verdict-is (c .before .before .before))
-
-enum-told : tie.Need-enum-told
-enum-told c = search needs
+unfolding totalsOutcome
+returns c = answer-refused (c .before .before .before .check .ensures) _ (c .before .verdict .given .1)
 
 from-found-requires : tie.Need-from-found-requires
-from-found-requires c κs =
-    let l = c .before .before .before .before .before .before .before in
-    let s = l .before .before .before .before .before in
-    bounded (take (l .least2 .result) (days-of s)) (take (l .least2 .result) (base-of s)) (c .before .before .before .before .sums .result) (c .before .before .before .before .sums .ensures)
+from-found-requires c κs = bounded _ _ (c .before .before .before .sums .result) (c .before .before .before .sums .ensures)
 
 returns-2 : tie.Need-returns-2
 returns-2 c =
-    let l = c .before .before .before .before .before .before .before .before in
-    let s = l .before .before .before .before .before in
-    c .from-found .ensures
-    ∙ answered (days-of s) (base-of s) (l .least2 .result) (front l) (c .before .before .before .before .before .sums .result) (c .before .before .before .before .before .sums .ensures) (sym (ap refusalOf (c .before .enum-told .given .1)) ∙ verdict-is (c .before .before .before))
+    let k = c .before .before .before in
+    c .from-found .ensures ∙ answered _ _ (k .before .sums .result) (found (k .before)) (decided-accepted (k .check .ensures) (c .before .enum-told .given .1))
 
 pub total-spec : {M : Type 1} → statement M
 total-spec =
     tie.close
-    (tie.spec
-    check-lists-requires
-    least-requires
-    least-requires-2
-    slice-aggregate-sums
-    slice-aggregate-sums-2
-    sums-requires
-    check-base-requires
-    earlier-requires
-    enum-known-verdict
-    returns
-    enum-told
-    from-found-requires
-    returns-2)
+    (tie.spec (λ c κs. search needs) (λ c κs. search needs) (λ c. sym (length-take-le _ _ (fits (c .before) .0)))
+    (λ c. sym (length-take-le _ _ (fits (c .before .before) .1))) sums-requires (λ c κs. found c) (λ c. search needs)
+    returns (λ c. search needs) from-found-requires returns-2)

@@ -4,7 +4,7 @@ use Prim.Native.Nat.{_+_}
 use native.Mathlib.Omega.{arith}
 use borrow.Author.Needs.{needs}
 use Rattle.series.specs.Units.{dayOf, baseOf}
-use Rattle.totals.specs.Adding.{addDay}
+use Rattle.totals.specs.Private.{addDay}
 use Rattle.totals.proofs.Summing.{Little, little-counted}
 use Rattle.totals.proofs.with_day.Statement.{statement}
 use Rattle.totals.proofs.with_day.Tie as tie
@@ -12,14 +12,8 @@ use Rattle.totals.proofs.with_day.Tie as tie
 small : (s : tie.Start) → Little (s .args .day) (dayOf (s .args .day)) (baseOf (s .args .base))
 small s = little-counted (s .args .day) (s .args .base) (s .pre .1)
 
-counted-requires : tie.Need-counted-requires
-counted-requires c κs = search needs
-
 counted-flow-requires : tie.Need-counted-flow-requires
 counted-flow-requires c κs = c .before .pre .1
-
-counted-base-requires : tie.Need-counted-base-requires
-counted-base-requires c κs = search needs
 
 add-t7 : tie.Need-add-t7
 add-t7 c =
@@ -49,4 +43,4 @@ returns c =
     )
 
 pub with-day-spec : {M : Type 1} → statement M
-with-day-spec = tie.close (tie.spec counted-requires counted-flow-requires counted-base-requires add-t7 add-t8 add-t9 returns)
+with-day-spec = tie.close (tie.spec (λ c κs. search needs) counted-flow-requires (λ c κs. search needs) add-t7 add-t8 add-t9 returns)

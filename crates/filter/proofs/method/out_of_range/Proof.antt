@@ -1,43 +1,21 @@
--- `filter::method::out_of_range` meets its contract: each arm tests its own rows' range.
+-- `filter::method::out_of_range` meets its contract: each arm tests its own row's range.
 -- Assumes nothing.
+use mathlib.Core.Path.{ap}
 use borrow.Author.Needs.{needs}
-use Rattle.filter.proofs.Numbered.{range-2, range-4, range-5, range-other}
+use Rattle.filter.proofs.MethodNumbers.{range-at, other-method}
+use Rattle.filter.specs.Methods.{lyne-hollick, chapman-1991, chapman-maxwell, boughton, eckhardt, tularam-ilahee, methodOf, methodRange}
 use Rattle.filter.proofs.method.out_of_range.Statement.{statement}
 use Rattle.filter.proofs.method.out_of_range.Tie as tie
 
-one-parameter-requires : tie.Need-one-parameter-requires
-one-parameter-requires c κs = search needs
-
-two-parameters-requires : tie.Need-two-parameters-requires
-two-parameters-requires c κs = search needs
-
-two-parameters-requires-2 : tie.Need-two-parameters-requires-2
-two-parameters-requires-2 c κs = search needs
-
-one-parameter-requires-2 : tie.Need-one-parameter-requires-2
-one-parameter-requires-2 c κs = search needs
-
-returns : tie.Need-returns
-returns c = range-2 (c .before .before .args .setting) (c .before .match .keys1) (c .one-parameter .ensures)
-
-returns-2 : tie.Need-returns-2
-returns-2 c = range-4 (c .before .before .args .setting) (c .before .match .keys2) (c .two-parameters .ensures)
-
-returns-3 : tie.Need-returns-3
-returns-3 c = range-5 (c .before .before .args .setting) (c .before .match .keys3) (c .two-parameters2 .ensures)
-
-returns-4 : tie.Need-returns-4
-returns-4 c = range-other (c .before .before .args .setting) (c .before .match .rest .0 .0 .1) (c .before .match .rest .0 .1) (c .before .match .rest .1) (c .one-parameter2 .ensures)
-
 pub out-of-range-spec : {M : Type 1} → statement M
+unfolding methodOf methodRange
 out-of-range-spec =
     tie.close
-    (tie.spec
-    one-parameter-requires
-    two-parameters-requires
-    two-parameters-requires-2
-    one-parameter-requires-2
-    returns
-    returns-2
-    returns-3
-    returns-4)
+    (tie.spec (λ c κs. search needs) (λ c κs. search needs) (λ c κs. search needs) (λ c κs. search needs)
+    (λ c κs. search needs) (λ c κs. search needs)
+    (λ c. range-at lyne-hollick _ (ap methodOf (c .before .match .keys1)) (c .one-parameter .ensures))
+    (λ c. range-at chapman-1991 _ (ap methodOf (c .before .match .keys2)) (c .one-parameter2 .ensures))
+    (λ c. range-at chapman-maxwell _ (ap methodOf (c .before .match .keys3)) (c .one-parameter3 .ensures))
+    (λ c. range-at boughton _ (ap methodOf (c .before .match .keys4)) (c .two-parameters .ensures))
+    (λ c. range-at eckhardt _ (ap methodOf (c .before .match .keys5)) (c .two-parameters2 .ensures))
+    (λ c. let r = c .before .match .rest in range-at tularam-ilahee _ (other-method _ (r .0 .0 .0 .0 .1) (r .0 .0 .0 .1) (r .0 .0 .1) (r .0 .1) (r .1)) (c .one-parameter4 .ensures)))

@@ -1,11 +1,11 @@
--- `filter::pass::backward_pass` meets its contract: the days from i on are done, and what is left is the run backwards from the following day.
+-- `filter::pass::backward_pass` meets its contract: the days from i on are done, and what is left is the run backwards from the
+-- following day.
 -- Assumes nothing.
 use Prim.Native.Nat.{_-_, _≤_}
 use native.Mathlib.Omega.{arith}
 use lib.ListN.{length, length-set}
-use denote.Ref.{now}
 use Rattle.filter.proofs.Turns.{Backward, backward-start, backward-turn, backward-end}
-use Rattle.filter.specs.Ranges.{weightsOf}
+use Rattle.filter.specs.Private.{weightsOf}
 use Rattle.filter.proofs.pass.backward_pass.Statement.{statement}
 use Rattle.filter.proofs.pass.backward_pass.Tie as tie
 
@@ -15,60 +15,21 @@ Inv-loop w base₀ previous₀ i₀ base previous i = (i ≤ length base) × Bac
 abbrev μ-loop : tie.MeasureT-loop
 μ-loop w base₀ previous₀ i₀ base previous i = i
 
-loop-holds : tie.Need-loop-holds Inv-loop μ-loop
-loop-holds c = (omega arith, backward-start (weightsOf (c .before .args .w)) (now (c .before .args .base)) (c .before .pre .1))
-
-sub-i : tie.Need-sub-i Inv-loop μ-loop
-sub-i c = omega arith
-
-mul-pass-day : tie.Need-mul-pass-day Inv-loop μ-loop
-mul-pass-day c = omega (arith, c .before .loop .inv .1 .same-length)
-
-slice-read-pass-day : tie.Need-slice-read-pass-day Inv-loop μ-loop
-slice-read-pass-day c = omega arith
-
 pass-day-requires : tie.Need-pass-day-requires Inv-loop μ-loop
 pass-day-requires c κs =
     let l = c .before .before in
     (l .before .before .pre .0, (l .loop .inv .1 .small-previous, l .loop .inv .1 .small (l .loop .i - 1)))
 
-mul-base : tie.Need-mul-base Inv-loop μ-loop
-mul-base c = omega (arith, c .before .before .before .loop .inv .1 .same-length)
-
-slice-write-base : tie.Need-slice-write-base Inv-loop μ-loop
-slice-write-base c = omega arith
-
-loop-less : tie.Need-loop-less Inv-loop μ-loop
-loop-less c = omega arith
-
 loop-again : tie.Need-loop-again Inv-loop μ-loop
 loop-again c =
-    let l = c .before .before .before in
-    let s = l .before .before in
-    (simp length-set (omega arith), backward-turn (weightsOf (s .args .w)) (now (s .args .base)) (c .before .before .loop-test .taken) (l .loop .inv .0) (l .loop .inv .1) (c .pass-day .ensures))
-
-same-length : tie.Need-same-length Inv-loop μ-loop
-same-length c = c .before .loop .inv .1 .same-length
-
-returns : tie.Need-returns Inv-loop μ-loop
-returns c =
-    let s = c .before .before .before in
-    backward-end (weightsOf (s .args .w)) (now (s .args .base)) (c .loop-test .left) (c .before .loop .inv .1)
+    let l = c .before .before .before .loop in
+    (simp length-set (omega arith), backward-turn _ _ (c .before .before .loop-test .taken) (l .inv .0) (l .inv .1) (c .pass-day .ensures))
 
 pub backward-pass-spec : {M : Type 1} → statement M
 backward-pass-spec =
     tie.close
-    (tie.spec
-    Inv-loop
-    μ-loop
-    loop-holds
-    sub-i
-    mul-pass-day
-    slice-read-pass-day
-    pass-day-requires
-    mul-base
-    slice-write-base
-    loop-less
-    loop-again
-    same-length
-    returns)
+    (tie.spec Inv-loop μ-loop (λ c. (omega arith, backward-start _ _ (c .before .pre .1))) (λ c. omega arith)
+    (λ c. omega (arith, c .before .loop .inv .1 .same-length)) (λ c. omega arith) pass-day-requires
+    (λ c. omega (arith, c .before .before .before .loop .inv .1 .same-length)) (λ c. omega arith) (λ c. omega arith)
+    loop-again (λ c. c .before .loop .inv .1 .same-length)
+    (λ c. backward-end _ _ (c .loop-test .left) (c .before .loop .inv .1)))

@@ -1,39 +1,35 @@
 -- `minima::block::first_turning` meets its contract.
 -- Assumes nothing.
-use mathlib.Core.Path.{refl, sym, _∙_}
+use Prim.Native.Nat.{_+_, _≤_, _<_}
+use mathlib.Core.Path.{refl}
+use native.Mathlib.Omega.{arith}
+use lib.ListN.{length}
 use borrow.Author.Needs.{needs}
 use denote.Ref.{now}
-use Rattle.minima.proofs.Points.{not-found, no-triples}
+use Rattle.minima.specs.Blocks.{blockCount}
+use Rattle.minima.proofs.Points.{not-found, no-triples, three-blocks, first-low}
 use Rattle.minima.proofs.block.first_turning.Statement.{statement}
 use Rattle.minima.proofs.block.first_turning.Tie as tie
 
-triples-requires : tie.Need-triples-requires
-triples-requires c κs = search needs
+-- three blocks, of which two lie in the segment
+abbrev entry : tie.Else1 → tie.Start
+entry c = c .before .before .before
 
-returns : tie.Need-returns
-returns c =
-    let a = c .before .before .before .args in
-    not-found (a .n) (a .g) (now (a .days)) _ refl (no-triples (a .n) (a .g) (now (a .days)) (sym (c .before .triples .ensures) ∙ c .if1 .taken))
+three : (c : tie.Else1) → 3 ≤ blockCount (entry c .args .blocks) (now (entry c .args .days))
+three c = omega (arith, c .before .count .ensures, c .if1 .left)
 
-minimum-day-requires : tie.Need-minimum-day-requires
-minimum-day-requires c κs = search needs
-
-minimum-day-requires-2 : tie.Need-minimum-day-requires-2
-minimum-day-requires-2 c κs = search needs
+fits : (c : tie.Else1) → (entry c .args .blocks .origin + entry c .args .blocks .days + entry c .args .blocks .days ≤ length (now (entry c .args .days))) × (0 < entry c .args .blocks .days)
+fits c = three-blocks _ _ (three c)
 
 next-turning-requires : tie.Need-next-turning-requires
-next-turning-requires c κs = search needs
-
-returns-2 : tie.Need-returns-2
-returns-2 c = search needs
+next-turning-requires c κs = first-low _ _ (three (c .before .before .before .before)) (c .before .minimum-day .ensures) (c .minimum-day2 .ensures)
 
 pub first-turning-spec : {M : Type 1} → statement M
 first-turning-spec =
     tie.close
-    (tie.spec
-    triples-requires
-    returns
-    minimum-day-requires
-    minimum-day-requires-2
-    next-turning-requires
-    returns-2)
+    (tie.spec (λ c κs. search needs)
+    (λ c. not-found _ _ _ refl (no-triples _ _ (omega (arith, c .before .count .ensures, c .if1 .taken))))
+    (λ c. omega (arith, fits (c .before))) (λ c. omega (arith, fits (c .before .before)))
+    (λ c κs. let f = fits (c .before .before) in (omega (arith, f .1), omega (arith, f .0)))
+    (λ c κs. let f = fits (c .before .before .before) in (omega (arith, f .1), f .0)) next-turning-requires
+    (λ c. search needs))

@@ -13,8 +13,5 @@ mul-result c =
     let b : c .args .flow ≤ 4294967295 = omega arith in
     omega (arith, mul-le-mul a b)
 
-returns : tie.Need-returns
-returns c = search needs
-
 pub times-spec : {M : Type 1} → statement M
-times-spec = tie.close (tie.spec mul-result returns)
+times-spec = tie.close (tie.spec mul-result (λ c. search needs))

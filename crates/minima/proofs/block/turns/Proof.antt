@@ -5,15 +5,6 @@ use Rattle.minima.proofs.Points.{below-left, not-below-left}
 use Rattle.minima.proofs.block.turns.Statement.{statement}
 use Rattle.minima.proofs.block.turns.Tie as tie
 
-times-requires : tie.Need-times-requires
-times-requires c κs = search needs
-
-times-requires-2 : tie.Need-times-requires-2
-times-requires-2 c κs = search needs
-
-times-requires-3 : tie.Need-times-requires-3
-times-requires-3 c κs = search needs
-
 returns : tie.Need-returns
 returns c =
     let t = c .before .before in
@@ -27,5 +18,4 @@ returns-2 c =
     not-below-left (a .g) (a .left) (a .middle) (a .right) (t .before .times .ensures) (t .times2 .ensures) (c .if1 .left)
 
 pub turns-spec : {M : Type 1} → statement M
-turns-spec =
-    tie.close (tie.spec times-requires times-requires-2 times-requires-3 returns returns-2)
+turns-spec = tie.close (tie.spec (λ c κs. search needs) (λ c κs. search needs) (λ c κs. search needs) returns returns-2)

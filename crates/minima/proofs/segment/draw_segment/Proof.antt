@@ -1,111 +1,94 @@
 -- `minima::segment::draw_segment` meets its contract: the days before t are drawn, and the turning points in hand give the others.
 -- Assumes nothing.
-use Prim.Native.Nat.{_-_}
+use Prim.Native.Nat.{_-_, _<_}
 use native.Mathlib.Omega.{arith}
 use lib.ListN.{length}
+use borrow.Author.Needs.{needs}
 use denote.Ref.{now}
+use Rattle.minima.specs.Private.{Span}
 use Rattle.minima.proofs.Pieces.{first-inside, span, next-low, onward}
-use Rattle.minima.proofs.Drawn.{Drawn, draw-start, draw-turn, draw-end, draw-nothing}
+use Rattle.minima.proofs.SegmentLine.{Drawn, draw-start, draw-turn, draw-end, draw-nothing}
 use Rattle.minima.proofs.segment.draw_segment.Statement.{statement}
 use Rattle.minima.proofs.segment.draw_segment.Tie as tie
 
 abbrev Inv-loop : tie.InvT-loop
-Inv-loop n g days base₀ left₀ t₀ right₀ base left t right = Drawn n g days base t left right
+Inv-loop blocks days base₀ left₀ t₀ right₀ base left t right = Drawn blocks days base t left right
 
 abbrev μ-loop : tie.MeasureT-loop
-μ-loop n g days base₀ left₀ t₀ right₀ base left t right = length days - t
+μ-loop blocks days base₀ left₀ t₀ right₀ base left t right = length days - t
 
-first-turning-requires : tie.Need-first-turning-requires Inv-loop μ-loop
-first-turning-requires c κs = c .before .before .pre .0
+-- places: the function's entry, where a first turning point was found, the loop's test, and where a turn has filled
+abbrev entered : tie.After-first-turning Inv-loop μ-loop → tie.Start Inv-loop μ-loop
+entered c = c .before .before .before
 
-blank-requires : tie.Need-blank-requires Inv-loop μ-loop
-blank-requires c κs = omega (arith, c .before .before .before .before .before .before .pre .2)
+abbrev first : tie.At-loop Inv-loop μ-loop → tie.Else1 Inv-loop μ-loop
+first l = l .before .before .before .before .before .before
 
-same-length : tie.Need-same-length Inv-loop μ-loop
-same-length c = c .before .before .blank .ensures .same-length
+abbrev entry : tie.At-loop Inv-loop μ-loop → tie.Start Inv-loop μ-loop
+entry l = entered (first l .before .before)
+
+abbrev filled : tie.After-next-turning2 Inv-loop μ-loop → tie.After-fill Inv-loop μ-loop
+filled c = c .before .before .before .before
+
+-- a first turning point was found
+there : (c : tie.Else1 Inv-loop μ-loop) → 0 < c .before .before .first-turning .result .block
+there c = omega (arith, c .if1 .left)
+
+-- a turn's piece
+piece : (c : tie.Then2 Inv-loop μ-loop) → Span (now (entry (c .before .before) .args .days)) (c .before .before .loop .left) (c .before .before .loop .right .day)
+piece c = span _ _ (c .before .before .loop .inv .in-hand) (c .if2 .taken) (entry (c .before .before) .pre .0)
 
 returns : tie.Need-returns Inv-loop μ-loop
 returns c =
-    let s = c .before .before .before .before .before .before .before .before .before in
-    draw-nothing (s .args .n) (s .args .g) (now (s .args .days)) (s .pre .2) (c .before .before .before .before .before .before .first-turning .ensures .nowhere (c .before .before .before .before .if1 .taken)) (c .before .before .blank .ensures)
+    let b = c .before .before in
+    let f = b .before .before .before .before in
+    draw-nothing _ _ (entered f .pre .1) (f .first-turning .ensures .nowhere (b .before .before .if1 .taken)) (b .blank .ensures)
 
 blank-requires-2 : tie.Need-blank-requires-2 Inv-loop μ-loop
 blank-requires-2 c κs =
-    let s = c .before .before .before .before .before .before in
-    let f = c .before .before .before .first-turning in
-    omega (arith, s .pre .2, first-inside (s .args .n) (s .args .g) (now (s .args .days)) (f .result) (f .ensures) (omega (arith, c .before .if1 .left)) (s .pre .0))
-
-next-turning-requires : tie.Need-next-turning-requires Inv-loop μ-loop
-next-turning-requires c κs = (c .before .before .before .before .before .before .before .before .before .pre .0, c .before .before .before .before .before .before .first-turning .ensures .there (omega (arith, c .before .before .before .before .if1 .left)) .low)
+    let f = c .before .before .before in
+    omega (arith, entered f .pre .1, first-inside _ _ _ (f .first-turning .ensures) (there (c .before)))
 
 loop-holds : tie.Need-loop-holds Inv-loop μ-loop
 loop-holds c =
-    let s = c .before .before .before .before .before .before .before .before .before .before in
-    let f = c .before .before .before .before .before .before .before .first-turning in
-    draw-start (s .args .n) (s .args .g) (now (s .args .days)) (f .result) (c .next-turning .result) (s .pre .0) (s .pre .2) (f .ensures) (omega (arith, c .before .before .before .before .before .if1 .left)) (c .next-turning .ensures) (c .before .before .before .blank2 .ensures)
-
-fill-requires : tie.Need-fill-requires Inv-loop μ-loop
-fill-requires c κs =
-    let l = c .before .before .before in
-    let s = c .before .before .before .before .before .before .before .before .before .before .before .before .before .before in
-    let v = l .loop .inv .in-hand in
-    (v .from, span (s .args .n) (s .args .g) (now (s .args .days)) v (c .before .if2 .taken) (s .pre .0) (s .pre .1), l .loop .inv .same-length)
-
-add-t : tie.Need-add-t Inv-loop μ-loop
-add-t c =
-    let l = c .before .before .before .before .before .before .before in
-    let s = c .before .before .before .before .before .before .before .before .before .before .before .before .before .before .before .before .before .before in
-    omega (arith, span (s .args .n) (s .args .g) (now (s .args .days)) (l .loop .inv .in-hand) (c .before .before .before .before .before .if2 .taken) (s .pre .0) (s .pre .1) .inside)
+    let b = c .before .before .before in
+    let e = b .before .before in
+    let f = e .before .before in
+    draw-start _ _ _ _ (entered f .pre .1) (f .first-turning .ensures) (there e) (c .next-turning .ensures) (b .blank2 .ensures)
 
 next-turning-requires-2 : tie.Need-next-turning-requires-2 Inv-loop μ-loop
-next-turning-requires-2 c κs =
-    let l = c .before .before .before .before .before .before .before in
-    let s = c .before .before .before .before .before .before .before .before .before .before .before .before .before .before .before .before .before .before in
-    (s .pre .0, next-low (s .args .n) (s .args .g) (now (s .args .days)) (l .loop .inv .in-hand) (c .before .before .before .before .before .if2 .taken))
+next-turning-requires-2 c κs = let t = c .before .before .before .before .before in next-low _ _ (t .before .before .loop .inv .in-hand) (t .if2 .taken)
 
 loop-less : tie.Need-loop-less Inv-loop μ-loop
 loop-less c =
-    let l = c .before .before .before .before .before .before .before .before in
-    let s = c .before .before .before .before .before .before .before .before .before .before .before .before .before .before .before .before .before .before .before in
-    let v = l .loop .inv .in-hand in
-    let t = c .before .before .before .before .before .before .if2 .taken in
-    omega (arith, span (s .args .n) (s .args .g) (now (s .args .days)) v t (s .pre .0) (s .pre .1) .inside, onward (s .args .n) (s .args .g) (now (s .args .days)) v t (s .pre .0))
+    let t = filled c .before .before in
+    omega (arith, piece t .inside, onward _ _ (t .before .before .loop .inv .in-hand) (t .if2 .taken))
 
 loop-again : tie.Need-loop-again Inv-loop μ-loop
 loop-again c =
-    let l = c .before .before .before .before .before .before .before .before in
-    let s = c .before .before .before .before .before .before .before .before .before .before .before .before .before .before .before .before .before .before .before in
-    draw-turn (s .args .n) (s .args .g) (now (s .args .days)) (l .loop .inv) (c .next-turning2 .result) (s .pre .0) (c .before .before .before .before .before .before .if2 .taken) (c .before .before .before .before .fill .ensures) (c .next-turning2 .ensures)
-
-blank-requires-3 : tie.Need-blank-requires-3 Inv-loop μ-loop
-blank-requires-3 c κs = omega (arith, c .before .before .before .loop .inv .same-length)
+    let t = filled c .before .before in
+    draw-turn _ _ (t .before .before .loop .inv) _ (t .if2 .taken) (filled c .fill .ensures) (c .next-turning2 .ensures)
 
 same-length-2 : tie.Need-same-length-2 Inv-loop μ-loop
-same-length-2 c = omega (arith, c .before .before .blank3 .ensures .same-length, c .before .before .before .before .before .before .loop .inv .same-length, c .before .before .before .before .before .before .before .before .before .before .before .before .before .before .before .before .before .pre .2)
+same-length-2 c =
+    let b = c .before .before in
+    let l = b .before .before .before .before in
+    omega (arith, b .blank3 .ensures .same-length, l .loop .inv .same-length, entry l .pre .1)
 
 returns-2 : tie.Need-returns-2 Inv-loop μ-loop
 returns-2 c =
-    let s = c .before .before .before .before .before .before .before .before .before .before .before .before .before .before .before .before .before in
-    draw-end (s .args .n) (s .args .g) (now (s .args .days)) (c .before .before .before .before .before .before .loop .inv) (omega (arith, c .before .before .before .before .if2 .left)) (c .before .before .blank3 .ensures)
+    let b = c .before .before in
+    let o = b .before .before in
+    draw-end _ _ (o .before .before .loop .inv) (omega (arith, o .if2 .left)) (b .blank3 .ensures)
 
 pub draw-segment-spec : {M : Type 1} → statement M
 draw-segment-spec =
     tie.close
-    (tie.spec
-    Inv-loop
-    μ-loop
-    first-turning-requires
-    blank-requires
-    same-length
-    returns
-    blank-requires-2
-    next-turning-requires
+    (tie.spec Inv-loop μ-loop (λ c κs. search needs)
+    (λ c κs. omega (arith, entered (c .before .before .before) .pre .1))
+    (λ c. c .before .before .blank .ensures .same-length) returns blank-requires-2
+    (λ c κs. let e = c .before .before .before .before in e .before .before .first-turning .ensures .there (there e) .low)
     loop-holds
-    fill-requires
-    add-t
-    next-turning-requires-2
-    loop-less
-    loop-again
-    blank-requires-3
-    same-length-2
-    returns-2)
+    (λ c κs. let s = c .before .before .before .loop .inv in (s .in-hand .from, piece (c .before), s .same-length))
+    (λ c. omega (arith, piece (c .before .before .before .before .before) .inside)) next-turning-requires-2 loop-less
+    loop-again (λ c κs. omega (arith, c .before .before .before .loop .inv .same-length)) same-length-2 returns-2)

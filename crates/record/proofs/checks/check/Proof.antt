@@ -11,8 +11,8 @@ use denote.Ref.{now}
 use Rattle.series.specs.Causes.{refusalOf, firstCause}
 use Rattle.series.specs.declared.Verdict.{Verdict}
 use Rattle.record.specs.Entries.{entryCauses}
-use Rattle.record.specs.Reply.{replyOf}
-use Rattle.record.specs.Steps.{entryAt}
+use Rattle.record.specs.Call.{replyOf}
+use Rattle.record.specs.Private.{entryAt}
 use Rattle.record.proofs.Walk.{begin, ran-out, stopped}
 use Rattle.record.proofs.checks.check.Statement.{statement}
 use Rattle.record.proofs.checks.check.Tie as tie
@@ -27,7 +27,7 @@ inside : (c : tie.After-check-entry) → 0 < length (now (start c .args .bytes))
 inside c = omega (arith, c .before .if1 .left)
 
 first-cause : (c : tie.After-check-entry) {v : Verdict} → c .check-entry .result ≡ v → firstCause (entryCauses true 0 (start c .args .room) (entryAt (now (start c .args .bytes)) 0)) ≡ refusalOf v
-first-cause c h = sym (c .check-entry .ensures) ∙ ap refusalOf h
+first-cause c h = sym (c .check-entry .ensures .first) ∙ ap refusalOf h
 
 returns-2 : tie.Need-returns-2
 returns-2 c =
@@ -41,11 +41,5 @@ check-days-requires c κs = (inside (c .before .before), first-cause (c .before 
 pub check-spec : {M : Type 1} → statement M
 check-spec =
     tie.close
-    (tie.spec
-    returns
-    (λ c κs. search needs)
-    (λ c. search needs)
-    returns-2
-    (λ c. search needs)
-    check-days-requires
+    (tie.spec returns (λ c κs. search needs) (λ c. search needs) returns-2 (λ c. search needs) check-days-requires
     (λ c. search needs))

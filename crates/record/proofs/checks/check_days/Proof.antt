@@ -14,8 +14,8 @@ use denote.Ref.{now}
 use Rattle.series.specs.Causes.{refusalOf, firstCause}
 use Rattle.series.specs.declared.Verdict.{Verdict}
 use Rattle.record.specs.Entries.{isEnd, Entry, entryCauses}
-use Rattle.record.specs.Reply.{replyOf}
-use Rattle.record.specs.Steps.{entryAt, PassedDays}
+use Rattle.record.specs.Call.{replyOf}
+use Rattle.record.specs.Private.{entryAt, PassedDays}
 use Rattle.record.proofs.Walk.{Walked, ran-out, stopped, end-headed, finished}
 use Rattle.record.proofs.Stepping.{behind-head, step-turn, no-step-end}
 use Rattle.record.proofs.checks.check_days.Statement.{statement}
@@ -46,7 +46,7 @@ entry-of c = entryAt (bytes-of c) (loop-of c .loop .at)
 next-step-requires : tie.Need-next-step-requires Inv-loop μ-loop
 next-step-requires c κs =
     let l = c .before in
-    (c .loop-test .taken, omega (arith, l .loop .inv .0 .total, l .loop .inv .0 .fits, l .before .day-space .ensures))
+    (c .loop-test .taken, omega (arith, l .loop .inv .0 .total, l .loop .inv .0 .fits, l .before .least .ensures))
 
 -- at an entry that no step passes
 check-entry-requires : tie.Need-check-entry-requires Inv-loop μ-loop
@@ -59,7 +59,7 @@ look-of c = c .before .before .before
 
 first-cause : (c : tie.After-check-entry Inv-loop μ-loop) {v : Verdict} → c .check-entry .result ≡ v
     → firstCause (entryCauses (eqb (loop-of (look-of c) .loop .at) 0) (loop-of (look-of c) .loop .counted) (room-of (look-of c)) (entry-of (look-of c))) ≡ refusalOf v
-first-cause c h = sym (c .check-entry .ensures) ∙ ap refusalOf h
+first-cause c h = sym (c .check-entry .ensures .first) ∙ ap refusalOf h
 
 returns : tie.Need-returns Inv-loop μ-loop
 returns c =
@@ -79,7 +79,7 @@ last : (c : tie.After-enum-told Inv-loop μ-loop) → isEnd (entry-of (look-of (
 last c =
     let w = look-of (told-of c) in
     let l = loop-of w .loop in
-    no-step-end (bytes-of w) (room-of w) (l .at) (l .counted) (loop-of w .before .day-space .ensures) (l .inv .0) (w .before .loop-test .taken) (l .inv .1) (no-cause c) (w .next-step .ensures .ends (told-of c .before .if1 .taken))
+    no-step-end (bytes-of w) (room-of w) (l .at) (l .counted) (loop-of w .before .least .ensures) (l .inv .0) (w .before .loop-test .taken) (l .inv .1) (no-cause c) (w .next-step .ensures .ends (told-of c .before .if1 .taken))
 
 four-bytes-requires : tie.Need-four-bytes-requires Inv-loop μ-loop
 four-bytes-requires c κs =
@@ -97,14 +97,14 @@ returns-2 c =
 abbrev step-of : tie.Else1 Inv-loop μ-loop → tie.After-next-step Inv-loop μ-loop
 step-of c = c .before .before
 
-passes : (c : tie.Else1 Inv-loop μ-loop) → PassedDays (bytes-of (step-of c)) (loop-of (step-of c) .loop .at) (loop-of (step-of c) .loop .counted) (loop-of (step-of c) .before .day-space .result)
+passes : (c : tie.Else1 Inv-loop μ-loop) → PassedDays (bytes-of (step-of c)) (loop-of (step-of c) .loop .at) (loop-of (step-of c) .loop .counted) (loop-of (step-of c) .before .least .result)
 passes c = step-of c .next-step .ensures .over (c .if1 .left)
 
 add-counted : tie.Need-add-counted Inv-loop μ-loop
 add-counted c =
     let e = c .before in
     let w = step-of e in
-    omega (arith, passes e .fits, w .next-step .ensures .days-stated (e .if1 .left), loop-of w .before .day-space .ensures)
+    omega (arith, passes e .fits, w .next-step .ensures .days-stated (e .if1 .left), loop-of w .before .least .ensures)
 
 add-at : tie.Need-add-at Inv-loop μ-loop
 add-at c =
@@ -123,7 +123,7 @@ loop-again c =
     let e = c .before .before in
     let w = step-of e in
     let l = loop-of w .loop in
-    (step-turn (bytes-of w) (room-of w) (l .at) (l .counted) (loop-of w .before .day-space .ensures) (l .inv .0) (w .before .loop-test .taken) (l .inv .1) (passes e) (w .next-step .ensures .bytes-taken (e .if1 .left)) (w .next-step .ensures .days-stated (e .if1 .left)), omega (arith, l .inv .1))
+    (step-turn (bytes-of w) (room-of w) (l .at) (l .counted) (loop-of w .before .least .ensures) (l .inv .0) (w .before .loop-test .taken) (l .inv .1) (passes e) (w .next-step .ensures .bytes-taken (e .if1 .left)) (w .next-step .ensures .days-stated (e .if1 .left)), omega (arith, l .inv .1))
 
 returns-3 : tie.Need-returns-3 Inv-loop μ-loop
 returns-3 c = sym (ap replyOf (ran-out (c .before .loop .inv .0) (c .loop-test .left)))
@@ -131,21 +131,7 @@ returns-3 c = sym (ap replyOf (ran-out (c .before .loop .inv .0) (c .loop-test .
 pub check-days-spec : {M : Type 1} → statement M
 check-days-spec =
     tie.close
-    (tie.spec
-    Inv-loop
-    μ-loop
-    (λ c κs. search needs)
-    loop-holds
-    next-step-requires
-    check-entry-requires
-    (λ c. search needs)
-    returns
-    (λ c. search needs)
-    four-bytes-requires
-    (λ c. omega (arith, loop-of (look-of (told-of (c .before))) .loop .inv .0 .total))
-    returns-2
-    add-counted
-    add-at
-    loop-less
-    loop-again
-    returns-3)
+    (tie.spec Inv-loop μ-loop (λ c κs. search needs) loop-holds next-step-requires check-entry-requires
+    (λ c. search needs) returns (λ c. search needs) four-bytes-requires
+    (λ c. omega (arith, loop-of (look-of (told-of (c .before))) .loop .inv .0 .total)) returns-2 add-counted add-at
+    loop-less loop-again returns-3)

@@ -25,12 +25,5 @@ returns-4 c =
 pub next-step-spec : {M : Type 1} → statement M
 next-step-spec =
     tie.close
-    (tie.spec
-    (λ c. search needs)
-    step-over-requires
-    (λ c. search needs)
-    step-over-requires-2
-    (λ c. search needs)
-    step-over-requires-3
-    (λ c. search needs)
-    returns-4)
+    (tie.spec (λ c. search needs) step-over-requires (λ c. search needs) step-over-requires-2 (λ c. search needs)
+    step-over-requires-3 (λ c. search needs) returns-4)

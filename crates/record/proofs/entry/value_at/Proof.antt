@@ -16,20 +16,11 @@ returns-6 c = rw (c .enum-told6 .given .1)
 pub value-at-spec : {M : Type 1} → statement M
 value-at-spec =
     tie.close
-    (tie.spec
-    (λ c. search needs)
-    (λ c κs. rw (c .enum-told .given .1) at (c .before .before .before .pre))
-    (λ c. search needs)
-    (λ c κs. rw (c .enum-told2 .given .1) at (c .before .before .before .pre))
-    (λ c. search needs)
-    (λ c. search needs)
-    (λ c κs. rw (c .enum-told4 .given .1) at (c .before .before .before .pre))
-    (λ c. search needs)
-    (λ c κs. rw (c .enum-told5 .given .1) at (c .before .before .before .pre))
-    (λ c. search needs)
+    (tie.spec (λ c. search needs) (λ c κs. rw (c .enum-told .given .1) at (c .before .before .before .pre))
+    (λ c. search needs) (λ c κs. rw (c .enum-told2 .given .1) at (c .before .before .before .pre)) (λ c. search needs)
+    (λ c. search needs) (λ c κs. rw (c .enum-told4 .given .1) at (c .before .before .before .pre)) (λ c. search needs)
+    (λ c κs. rw (c .enum-told5 .given .1) at (c .before .before .before .pre)) (λ c. search needs)
     (λ c. rw (c .before .enum-told .given .1) (c .four-bytes .ensures))
-    (λ c. rw (c .before .enum-told2 .given .1) (c .four-bytes2 .ensures))
-    returns-3
+    (λ c. rw (c .before .enum-told2 .given .1) (c .four-bytes2 .ensures)) returns-3
     (λ c. rw (c .before .enum-told4 .given .1) (c .two-bytes .ensures))
-    (λ c. rw (c .before .enum-told5 .given .1) (c .four-bytes3 .ensures))
-    returns-6)
+    (λ c. rw (c .before .enum-told5 .given .1) (c .four-bytes3 .ensures)) returns-6)

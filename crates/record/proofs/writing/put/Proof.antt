@@ -16,18 +16,10 @@ put-missing-requires c κs =
 pub put-spec : {M : Type 1} → statement M
 put-spec =
     tie.close
-    (tie.spec
-    (λ c. search needs)
-    (λ c. search needs)
-    (λ c. omega (arith, rw (c .enum-told .given .1) at (c .before .before .before .pre)))
-    (λ c. search needs)
-    (λ c. search needs)
-    (λ c. omega (arith, rw (c .enum-told2 .given .1) at (c .before .before .before .pre)))
-    (λ c. search needs)
-    put-missing-requires
-    (λ c. search needs)
-    (λ c. search needs)
-    (λ c. search needs)
+    (tie.spec (λ c. search needs) (λ c. search needs)
+    (λ c. omega (arith, rw (c .enum-told .given .1) at (c .before .before .before .pre))) (λ c. search needs)
+    (λ c. search needs) (λ c. omega (arith, rw (c .enum-told2 .given .1) at (c .before .before .before .pre)))
+    (λ c. search needs) put-missing-requires (λ c. search needs) (λ c. search needs) (λ c. search needs)
     (λ c. search needs)
     (λ c. rw (c .enum-told .given .1) (one-stored _ _ _ (rw (c .enum-told .given .1) at (c .before .before .before .pre))))
     (λ c. search needs)

@@ -47,15 +47,5 @@ returns c =
 pub put-missing-spec : {M : Type 1} → statement M
 put-missing-spec =
     tie.close
-    (tie.spec
-    Inv-loop
-    μ-loop
-    loop-holds
-    (λ c. omega arith)
-    (λ c. omega arith)
-    slice-write-days
-    (λ c. omega arith)
-    (λ c. omega arith)
-    loop-again
-    list-length
-    returns)
+    (tie.spec Inv-loop μ-loop loop-holds (λ c. omega arith) (λ c. omega arith) slice-write-days (λ c. omega arith)
+    (λ c. omega arith) loop-again list-length returns)

@@ -10,10 +10,11 @@ use borrow.Author.Needs.{needs}
 use lib.ListN.{length}
 use lib.Dec.{eqb}
 use denote.Ref.{now}
+use Rattle.numbers.specs.Lists.{stored}
 use Rattle.series.specs.Causes.{firstCause}
 use Rattle.record.specs.Entries.{isEnd, bodyLength, daysOf, statedDays, entryCauses}
-use Rattle.record.specs.Reading.{reading}
-use Rattle.record.specs.Steps.{isAccepted, stored, entryAt}
+use Rattle.record.specs.Call.{reading}
+use Rattle.record.specs.Private.{isAccepted, entryAt}
 use Rattle.record.proofs.Tests.{told, days-are}
 use Rattle.record.proofs.Walk.{still-inside, still-no-cause, body-inside, within-room}
 use Rattle.record.proofs.WritingWalk.{Written, begin-days, same-length, next-writing, all-written, later-kind}
@@ -50,8 +51,8 @@ shared-slice-read-behind-head c = inside (c .before)
 behind-head-requires : tie.Need-behind-head-requires Inv-loop μ-loop
 behind-head-requires c κs = let l = c .before in later-kind (l .loop .inv .0) (good l) (l .loop .inv .1)
 
-last : (c : tie.After-is-end Inv-loop μ-loop) {t : Bool} → c .is-end .result ≡ t → isEnd (entryAt (bytes-of (c .before .before .before)) (c .before .before .before .loop .at) .kind) ≡ t
-last c h = told isEnd (c .before .behind-head .ensures) (c .is-end .ensures) h
+last : (c : tie.After-is Inv-loop μ-loop) {t : Bool} → c .is .result ≡ t → isEnd (entryAt (bytes-of (c .before .before .before)) (c .before .before .before .loop .at) .kind) ≡ t
+last c h = told isEnd (c .before .behind-head .ensures) (c .is .ensures) h
 
 list-length : tie.Need-same-length Inv-loop μ-loop
 list-length c = same-length (c .before .before .before .before .loop .inv .0)
@@ -59,7 +60,7 @@ list-length c = same-length (c .before .before .before .before .loop .inv .0)
 returns : tie.Need-returns Inv-loop μ-loop
 returns c = let l = c .before .before .before .before in all-written (l .loop .inv .0) (good l) (last (c .before) (c .if1 .taken))
 
-body-fits : (c : tie.After-is-end Inv-loop μ-loop) → c .before .before .before .loop .at + 1 + bodyLength (c .before .behind-head .result) ≤ length (bytes-of (c .before .before .before))
+body-fits : (c : tie.After-is Inv-loop μ-loop) → c .before .before .before .loop .at + 1 + bodyLength (c .before .behind-head .result) ≤ length (bytes-of (c .before .before .before))
 body-fits c =
     let l = c .before .before .before in
     omega (arith, body-inside (bytes-of l) (length (list-of l)) (l .loop .at) (l .loop .counted) (l .loop .inv .0 .walk) (inside l) (no-cause l), ap bodyLength (c .before .behind-head .ensures))
@@ -89,22 +90,9 @@ loop-again c =
 pub write-days-spec : {M : Type 1} → statement M
 write-days-spec =
     tie.close
-    (tie.spec
-    Inv-loop
-    μ-loop
-    loop-holds
-    shared-slice-read-behind-head
-    behind-head-requires
-    (λ c κs. search needs)
-    list-length
-    returns
-    (λ c. omega (arith, body-fits (c .before)))
-    (λ c κs. body-fits (c .before))
-    put-requires
-    (λ c κs. search needs)
-    add-counted
-    (λ c κs. search needs)
-    (λ c. omega arith)
+    (tie.spec Inv-loop μ-loop loop-holds shared-slice-read-behind-head behind-head-requires (λ c κs. search needs)
+    list-length returns (λ c. omega (arith, body-fits (c .before))) (λ c κs. body-fits (c .before)) put-requires
+    (λ c κs. search needs) add-counted (λ c κs. search needs) (λ c. omega arith)
     (λ c. omega (arith, body-fits (c .before .before .before .before .before .before .before .before), c .body-length .ensures .0))
     (λ c. omega (arith, inside (c .before .before .before .before .before .before .before .before .before .before .before)))
     loop-again)

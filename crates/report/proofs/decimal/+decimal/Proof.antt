@@ -34,31 +34,10 @@ calls t = (
   decimal.Post,
 )
 
-digit-requires : (t : ℕ) → lts.Need-digit-requires (calls t) (given t) decimal.Post
-digit-requires t c κs = search needs
-
-put-requires : (t : ℕ) → lts.Need-put-requires (calls t) (given t) decimal.Post
-put-requires t c κs = search needs
-
-same-length : (t : ℕ) → lts.Need-same-length (calls t) (given t) decimal.Post
-same-length t c = search needs
-
 returns : (t : ℕ) → lts.Need-returns (calls t) (given t) decimal.Post
 returns t c =
     let s = c .before .before .before .before .before in
     as-text (ap (λ d. d ∷ []) (c .before .before .before .digit .ensures) ∙ decimal-below (s .before .before .args .number) (s .if1 .taken)) (c .before .before .put .ensures)
-
-decimal-requires : (t : ℕ) → lts.Need-decimal-requires (calls t) (given t) decimal.Post
-decimal-requires t c κs = (omega (arith, c .before .before .before .pre .0), tt)
-
-digit-requires-2 : (t : ℕ) → lts.Need-digit-requires-2 (calls t) (given t) decimal.Post
-digit-requires-2 t c κs = omega arith
-
-put-requires-2 : (t : ℕ) → lts.Need-put-requires-2 (calls t) (given t) decimal.Post
-put-requires-2 t c κs = search needs
-
-same-length-2 : (t : ℕ) → lts.Need-same-length-2 (calls t) (given t) decimal.Post
-same-length-2 t c = search needs
 
 returns-2 : (t : ℕ) → lts.Need-returns-2 (calls t) (given t) decimal.Post
 returns-2 t c =
@@ -71,12 +50,12 @@ pub +decimal-spec : {M : Type 1} → statement M
 +decimal-spec =
     close μ
     (λ t. lts.spec (calls t) (given t) decimal.Post
-    (digit-requires t)
-    (put-requires t)
-    (same-length t)
+    (λ c κs. search needs)
+    (λ c κs. search needs)
+    (λ c. search needs)
     (returns t)
-    (decimal-requires t)
-    (digit-requires-2 t)
-    (put-requires-2 t)
-    (same-length-2 t)
+    (λ c κs. (omega (arith, c .before .before .before .pre .0), tt))
+    (λ c κs. omega arith)
+    (λ c κs. search needs)
+    (λ c. search needs)
     (returns-2 t))

@@ -37,21 +37,6 @@ calls t = (
 returns : (t : ℕ) → lts.Need-returns (calls t) (given t) last-digits.Post
 returns t c = as-text (last-none (c .before .before .args .number) (c .if1 .taken)) nothing
 
-sub-last-digits : (t : ℕ) → lts.Need-sub-last-digits (calls t) (given t) last-digits.Post
-sub-last-digits t c = search needs
-
-last-digits-requires : (t : ℕ) → lts.Need-last-digits-requires (calls t) (given t) last-digits.Post
-last-digits-requires t c κs = (omega (arith, c .before .before .before .pre .0, c .before .if1 .left), tt)
-
-digit-requires : (t : ℕ) → lts.Need-digit-requires (calls t) (given t) last-digits.Post
-digit-requires t c κs = omega arith
-
-put-requires : (t : ℕ) → lts.Need-put-requires (calls t) (given t) last-digits.Post
-put-requires t c κs = search needs
-
-same-length : (t : ℕ) → lts.Need-same-length (calls t) (given t) last-digits.Post
-same-length t c = search needs
-
 returns-2 : (t : ℕ) → lts.Need-returns-2 (calls t) (given t) last-digits.Post
 returns-2 t c =
     let d = c .before .before .before .before .before .before .before in
@@ -64,9 +49,9 @@ pub +last-digits-spec : {M : Type 1} → statement M
     close μ
     (λ t. lts.spec (calls t) (given t) last-digits.Post
     (returns t)
-    (sub-last-digits t)
-    (last-digits-requires t)
-    (digit-requires t)
-    (put-requires t)
-    (same-length t)
+    (λ c. search needs)
+    (λ c κs. (omega (arith, c .before .before .before .pre .0, c .before .if1 .left), tt))
+    (λ c κs. omega arith)
+    (λ c κs. search needs)
+    (λ c. search needs)
     (returns-2 t))

@@ -13,14 +13,5 @@ mul-near c =
     let b : c .args .share ≤ 4294967295 = omega (arith, c .fits .share) in
     omega (arith, mul-le-mul a b)
 
-near-requires : tie.Need-near-requires
-near-requires c κs = search needs
-
-cast-result : tie.Need-cast-result
-cast-result c = search needs
-
-returns : tie.Need-returns
-returns c = search needs
-
 pub part-spec : {M : Type 1} → statement M
-part-spec = tie.close (tie.spec mul-near near-requires cast-result returns)
+part-spec = tie.close (tie.spec mul-near (λ c κs. search needs) (λ c. search needs) (λ c. search needs))
