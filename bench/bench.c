@@ -16,31 +16,37 @@
 enum { RUNS = 25, RUN_NANOSECONDS = 4000000, STACK = 1 << 18, PAINT = 0xc3, SIZES = 3, MOST = BASEFLOW_MOST_DAYS };
 static const uint32_t sizes[SIZES] = {1000, 10000, MOST};
 
-enum input { FLOWS, GAPS, MIXED };
+enum input { FLOWS, GAPS, MIXED, LATE, SUMMERS };
 enum call { READ, FILTER, STEP, LINE, TOTALS, RECESSION };
 
 static const struct job {
     const char *name;
     enum call call;
     enum input input;
-    uint32_t first, p, q, passes; // method, p, q and passes; or N and g; or L
+    uint32_t first, p, q; // method, p and q; or N and g; or L
+    int32_t s;
+    uint32_t passes;
 } jobs[] = {
-    {"read, flows only", READ, FLOWS, 0, 0, 0, 0},
-    {"read, few gaps", READ, GAPS, 0, 0, 0, 0},
-    {"read, kinds mixed", READ, MIXED, 0, 0, 0, 0},
-    {"filter, method 1, 1 pass", FILTER, GAPS, 1, 9250, 0, 1},
-    {"filter, method 1, 3 passes", FILTER, GAPS, 1, 9250, 0, 3},
-    {"filter, method 2", FILTER, GAPS, 2, 9500, 0, 1},
-    {"filter, method 5", FILTER, GAPS, 5, 9780, 8000, 1},
-    {"step, method 1", STEP, GAPS, 1, 9250, 0, 1},
-    {"step, method 5", STEP, GAPS, 5, 9780, 8000, 1},
-    {"line, N 1", LINE, GAPS, 1, 9000, 0, 0},
-    {"line, N 5", LINE, GAPS, 5, 9000, 0, 0},
-    {"line, N 30, no gaps", LINE, FLOWS, 30, 9000, 0, 0},
-    {"totals, few gaps", TOTALS, GAPS, 0, 0, 0, 0},
-    {"totals, many gaps", TOTALS, MIXED, 0, 0, 0, 0},
-    {"recession, L 2", RECESSION, GAPS, 2, 0, 0, 0},
-    {"recession, L 5", RECESSION, GAPS, 5, 0, 0, 0},
+    {"read, flows only", READ, FLOWS, 0, 0, 0, 0, 0},
+    {"read, few gaps", READ, GAPS, 0, 0, 0, 0, 0},
+    {"read, kinds mixed", READ, MIXED, 0, 0, 0, 0, 0},
+    {"filter, method 1, 1 pass", FILTER, GAPS, 1, 9250, 0, 0, 1},
+    {"filter, method 1, 3 passes", FILTER, GAPS, 1, 9250, 0, 0, 3},
+    {"filter, method 2", FILTER, GAPS, 2, 9500, 0, 0, 1},
+    {"filter, method 5", FILTER, GAPS, 5, 9780, 8000, 0, 1},
+    {"filter, method 7", FILTER, GAPS, 7, 9700, 300, -2000, 1},
+    {"step, method 1", STEP, GAPS, 1, 9250, 0, 0, 1},
+    {"step, method 5", STEP, GAPS, 5, 9780, 8000, 0, 1},
+    {"step, method 7", STEP, GAPS, 7, 9700, 300, -2000, 1},
+    {"line, N 1", LINE, GAPS, 1, 9000, 0, 0, 0},
+    {"line, N 5", LINE, GAPS, 5, 9000, 0, 0, 0},
+    {"line, N 30, no gaps", LINE, FLOWS, 30, 9000, 0, 0, 0},
+    {"line, N 5, at the end", LINE, LATE, 5, 9999, 0, 0, 0},
+    {"line, N 5, dry summers", LINE, SUMMERS, 5, 9000, 0, 0, 0},
+    {"totals, few gaps", TOTALS, GAPS, 0, 0, 0, 0, 0},
+    {"totals, many gaps", TOTALS, MIXED, 0, 0, 0, 0, 0},
+    {"recession, L 2", RECESSION, GAPS, 2, 0, 0, 0, 0},
+    {"recession, L 5", RECESSION, GAPS, 5, 0, 0, 0, 0},
 };
 enum { JOBS = sizeof jobs / sizeof *jobs };
 
@@ -74,7 +80,15 @@ static void put(uint8_t kind, uint32_t value, size_t body)
         bytes[bytes_len++] = (uint8_t)value;
 }
 
-// A river of storms and recessions, its record, and base flow for the totals.
+// A steady rise, by so much that nothing turns at g 9999, and two dips at its very end: the only turning points.
+static uint32_t late_flow(uint32_t t, uint32_t size)
+{
+    uint32_t flow = 1000 + 5 * t;
+    return t + 20 == size || t + 8 == size ? flow / 2 : flow;
+}
+
+// A river of storms and recessions (or one whose line comes late, or one that is dry for a third of each year), its record,
+// and base flow for the totals.
 static void prepare(enum input input, uint32_t size)
 {
     uint32_t flow = 900;
@@ -83,18 +97,22 @@ static void prepare(enum input input, uint32_t size)
     bytes_len = 0;
     put(BASEFLOW_HEAD, 0, 4);
     for (uint32_t t = 0; t < size; t++) {
-        flow = below(10) == 0 ? flow + below(4000) : flow - flow / 32;
+        if (input == LATE)
+            flow = late_flow(t, size);
+        else
+            flow = below(10) == 0 ? flow + below(4000) : flow - flow / 32;
         int missing = input == MIXED ? below(2) == 0 : input == GAPS && below(50) == 0;
-        days[t] = missing ? BASEFLOW_MISSING : flow;
+        uint32_t day = input == SUMMERS && t % 365 >= 240 ? 0 : flow;
+        days[t] = missing ? BASEFLOW_MISSING : day;
         if (!missing)
-            put(BASEFLOW_FLOW, flow, 4);
+            put(BASEFLOW_FLOW, day, 4);
         else if (below(2) == 0)
             put(BASEFLOW_ONE_MISSING, 0, 0);
         else
             put(BASEFLOW_MISSING_DAYS, 1, 2);
     }
     put(BASEFLOW_END, size, 4);
-    if (reference_filter(1, 9250, 0, 1, days, size, given_base, size) != 0)
+    if (reference_filter(1, 9250, 0, 0, 1, days, size, given_base, size) != 0)
         abort();
 }
 
@@ -115,13 +133,13 @@ static uintptr_t stack_before;
             (r)->answer = prefix##read(bytes, bytes_len, (r)->days, MOST, &(r)->small[0], &(r)->small[1]);             \
             break;                                                                                                     \
         case FILTER:                                                                                                   \
-            (r)->answer =                                                                                              \
-                prefix##filter((job)->first, (job)->p, (job)->q, (job)->passes, days, count, (r)->base, count);        \
+            (r)->answer = prefix##filter((job)->first, (job)->p, (job)->q, (job)->s, (job)->passes, days, count,       \
+                                         (r)->base, count);                                                            \
             break;                                                                                                     \
         case STEP:                                                                                                     \
             for (uint32_t t = 0; t < count; t++)                                                                       \
-                (r)->answer |= prefix##step((job)->first, (job)->p, (job)->q, days[t], &has_yesterday, &flow, &base,   \
-                                            &(r)->base[t]);                                                            \
+                (r)->answer |= prefix##step((job)->first, (job)->p, (job)->q, (job)->s, days[t], &has_yesterday,       \
+                                            &flow, &base, &(r)->base[t]);                                              \
             break;                                                                                                     \
         case LINE:                                                                                                     \
             (r)->answer = prefix##line((job)->first, (job)->p, days, count, (r)->base, count);                         \

@@ -57,7 +57,7 @@ int main(int argc, char **argv)
     uint32_t answer = baseflow_read(bytes, bytes_len, days, BASEFLOW_MOST_DAYS, &first_day, &day_count);
     if (refused("baseflow_read", answer))
         return 1;
-    answer = baseflow_filter(BASEFLOW_LYNE_HOLLICK, 9250, 0, 1, days, day_count, base, day_count);
+    answer = baseflow_filter(BASEFLOW_LYNE_HOLLICK, 9250, 0, 0, 1, days, day_count, base, day_count);
     if (refused("baseflow_filter", answer))
         return 1;
     print_days(first_day, day_count);

@@ -1,5 +1,5 @@
 /*
- * baseflow.h - the base flow engine of the sealed gauging box
+ * baseflow.h - base flow engine of a sealed river gauging box
  *
  * Base flow is the part of a river's flow that groundwater feeds. From a record of daily flows the engine reads the
  * days, separates base flow by a recursive filter or by the smoothed-minima line, totals it, and finds recession
@@ -7,7 +7,7 @@
  *
  * Units
  *   flow        litres a second, whole, 0 to 10,000,000
- *   base flow   thousandths of a litre a second; the whole of a day's flow y is 1000 * y there
+ *   base flow   thousandths of a litre a second; a flow of y litres is 1000 * y of them
  *   parameters, factor, index and ratio
  *               ten-thousandths: 9250 is 0.925
  *   day list    uint32_t a day: its flow, or BASEFLOW_MISSING
@@ -61,47 +61,48 @@ extern "C" {
 #define BASEFLOW_FLOW 0x02         /* 4 bytes: the flow of one day */
 #define BASEFLOW_ONE_MISSING 0x03  /* no body: one missing day */
 #define BASEFLOW_MISSING_DAYS 0x04 /* 2 bytes: that many missing days, 1 to 65,535 */
-#define BASEFLOW_END 0x09          /* 4 bytes: number of days, missing ones included */
+#define BASEFLOW_END 0x09          /* 4 bytes: how many days there are, with the missing ones */
 
-/* methods of the filters, with p and q in ten-thousandths; q is 0 where none is named */
-#define BASEFLOW_LYNE_HOLLICK 1u    /* p 1 to 9999; one to three passes */
-#define BASEFLOW_CHAPMAN_1991 2u    /* p 3334 to 9999 */
-#define BASEFLOW_CHAPMAN_MAXWELL 3u /* p 1 to 9999 */
-#define BASEFLOW_BOUGHTON 4u        /* p 1 to 9999, q 1 to 10000 */
-#define BASEFLOW_ECKHARDT 5u        /* p 1 to 9999, q (BFImax) 1 to 9999 */
-#define BASEFLOW_TULARAM_ILAHEE 6u  /* p 1 to 9999 */
+/* methods of the filters, with p, q and s in ten-thousandths; q and s are 0 where none is named */
+#define BASEFLOW_LYNE_HOLLICK 1u       /* p 1 to 9999; one to three passes */
+#define BASEFLOW_CHAPMAN_1991 2u       /* p 3334 to 9999 */
+#define BASEFLOW_CHAPMAN_MAXWELL 3u    /* p 1 to 9999 */
+#define BASEFLOW_BOUGHTON 4u           /* p 1 to 9999, q 1 to 10000 */
+#define BASEFLOW_ECKHARDT 5u           /* p 1 to 9999, q (BFImax) 1 to 9999 */
+#define BASEFLOW_TULARAM_ILAHEE 6u     /* p 1 to 9999 */
+#define BASEFLOW_JAKEMAN_HORNBERGER 7u /* p 1 to 9999, q 1 to 10000, s -9999 to 9999 */
 
 /* what a call returns */
 enum baseflow_answer {
     BASEFLOW_ACCEPTED = 0,
-    BASEFLOW_BYTES_SHORT = 1,      /* bytes end inside a body or before an end entry */
-    BASEFLOW_BAD_KIND = 2,         /* kind not 01, 02, 03, 04, 09 */
-    BASEFLOW_BAD_PLACE = 3,        /* first entry no head, or a later head */
-    BASEFLOW_BAD_VALUE = 4,        /* a record's value outside its range */
-    BASEFLOW_RECORD_TOO_LONG = 5,  /* record of over 36,525 days */
-    BASEFLOW_DAYS_SHORT = 6,       /* day list too short for the record */
-    BASEFLOW_BAD_COUNT = 7,        /* the end entry's count is wrong */
-    BASEFLOW_BYTES_LEFT = 8,       /* bytes after the end entry */
-    BASEFLOW_DAYS_TOO_LONG = 9,    /* day list over 36,525 long */
-    BASEFLOW_BAD_DAY = 10,         /* a day neither flow nor missing */
-    BASEFLOW_BAD_METHOD = 11,      /* method not 1 to 6 */
-    BASEFLOW_BAD_PARAMETER = 12,   /* p or q outside its range */
-    BASEFLOW_BAD_PASSES = 13,      /* passes not 1 to 3, or over 1 outside method 1 */
-    BASEFLOW_LENGTHS_DIFFER = 14,  /* base list and day list differ in length */
-    BASEFLOW_BAD_STATE = 15,       /* state's flow over its limit, or base over 1000 * flow */
-    BASEFLOW_BAD_BLOCK = 16,       /* block length or factor outside its range */
-    BASEFLOW_NO_LINE = 17,         /* no stretch has two turning points */
-    BASEFLOW_BAD_LIMB_DAYS = 18,   /* shortest limb outside its range */
-    BASEFLOW_NO_RATIO = 19,        /* no counted limb, so no ratio */
-    BASEFLOW_BAD_BASE = 20,        /* base value on a missing day or above 1000 * the day's flow */
-    BASEFLOW_NO_FLOW = 21,         /* the flow total is 0 */
-    BASEFLOW_LIMBS_SHORT = 22      /* limb list shorter than two numbers per counted limb */
+    BASEFLOW_BYTES_SHORT = 1,      /* bytes that run out within a body, or before an end entry */
+    BASEFLOW_BAD_KIND = 2,         /* a kind that is none of 01, 02, 03, 04, 09 */
+    BASEFLOW_BAD_PLACE = 3,        /* a first entry that is not a head, or a later one that is */
+    BASEFLOW_BAD_VALUE = 4,        /* an entry's value outside the range of its kind */
+    BASEFLOW_RECORD_TOO_LONG = 5,  /* a record of more than 36,525 days */
+    BASEFLOW_DAYS_SHORT = 6,       /* no room in the day list for a record's days */
+    BASEFLOW_BAD_COUNT = 7,        /* an end entry that counts another number of days */
+    BASEFLOW_BYTES_LEFT = 8,       /* bytes behind the end entry */
+    BASEFLOW_DAYS_TOO_LONG = 9,    /* a day list of more than 36,525 days */
+    BASEFLOW_BAD_DAY = 10,         /* a number for a day that is neither a flow nor the mark of a missing day */
+    BASEFLOW_BAD_METHOD = 11,      /* a method that is not 1 to 7 */
+    BASEFLOW_BAD_PARAMETER = 12,   /* p, q or s outside the range of its method */
+    BASEFLOW_BAD_PASSES = 13,      /* passes that are not 1, 2 or 3, or are 2 or 3 in another method than 1 */
+    BASEFLOW_LENGTHS_DIFFER = 14,  /* a base list that is not as long as the day list */
+    BASEFLOW_BAD_STATE = 15,       /* a state whose flow is above 10,000,000, or whose base is above 1000 * that flow */
+    BASEFLOW_BAD_BLOCK = 16,       /* block length N or factor g out of range */
+    BASEFLOW_NO_LINE = 17,         /* no segment with two or more turning points */
+    BASEFLOW_BAD_LIMB_DAYS = 18,   /* shortest limb L out of range */
+    BASEFLOW_NO_RATIO = 19,        /* no ratio, since no limb counts */
+    BASEFLOW_BAD_BASE = 20,        /* a base value on a missing day, or one above 1000 * the flow of its day */
+    BASEFLOW_NO_FLOW = 21,         /* a flow total Y of 0 */
+    BASEFLOW_LIMBS_SHORT = 22      /* a limb list without two numbers for each counted limb */
 };
 
 /*
  * Reads a record into a day list.
  *
- * Refuses entry by entry: 2, 3, 1, 4, 5, 6; at the end entry its count, 7, then 8. No bytes at all is 1.
+ * Refuses entry by entry: 2, 3, 1, 4, 5, 6, and then for an end entry 7, 8. No bytes at all is 1.
  * On 0: *first_day is the first day since 1 January 1900, *day_count the number of days (0 to 36,525). That many
  * numbers are written from the start of `days`, the rest of it is left as it was. `days` may be of any length.
  */
@@ -111,16 +112,18 @@ uint32_t baseflow_read(const uint8_t *bytes, size_t bytes_len, uint32_t *days, s
 /*
  * Separates base flow with a recursive filter. Each stretch of present days is filtered alone.
  *
+ * s is signed. In method 7 it is how much yesterday's flow counts beside today's, in ten-thousandths, and may be below
+ * zero; a day whose base flow would come out below zero has 0. In all other methods s is 0.
  * Refuses: 11, 12, 13, 9, 14, 10.
  * On 0: all of `base` is written, BASEFLOW_NO_VALUE on missing days and at most 1000 * flow on the others.
  * Lend a base list exactly as long as the day list.
  */
-uint32_t baseflow_filter(uint32_t method, uint32_t p, uint32_t q, uint32_t passes, const uint32_t *days,
+uint32_t baseflow_filter(uint32_t method, uint32_t p, uint32_t q, int32_t s, uint32_t passes, const uint32_t *days,
                          size_t days_len, uint64_t *base, size_t base_len);
 
 /*
  * One pass of a filter for one day: for a box that separates as it measures. Steps from the fresh state over a day list
- * give what baseflow_filter gives with one pass.
+ * give what baseflow_filter gives with the same method, p, q and s and with one pass.
  *
  * The state is *has_yesterday, *flow and *base. With *has_yesterday 0 it is the fresh one, and *flow and *base are not
  * looked at; with anything else *flow is yesterday's flow and *base its base flow. All three must be readable.
@@ -128,12 +131,13 @@ uint32_t baseflow_filter(uint32_t method, uint32_t p, uint32_t q, uint32_t passe
  * On 0: *value is the day's base flow and the state is that of this day (*has_yesterday 1, *flow the day, *base its
  * base flow); after a missing day *value is BASEFLOW_NO_VALUE and *has_yesterday, *flow and *base are 0.
  */
-uint32_t baseflow_step(uint32_t method, uint32_t p, uint32_t q, uint32_t day, uint32_t *has_yesterday, uint32_t *flow,
-                       uint64_t *base, uint64_t *value);
+uint32_t baseflow_step(uint32_t method, uint32_t p, uint32_t q, int32_t s, uint32_t day, uint32_t *has_yesterday,
+                       uint32_t *flow, uint64_t *base, uint64_t *value);
 
 /*
  * Separates base flow by the smoothed-minima line between turning points: blocks of `block_days` days (1 to 30),
- * turning where `factor` (1 to 9999; 9000 is usual) times a block's minimum is below both neighbours'.
+ * turning where `factor` (1 to 9999; 9000 is usual) times a block's minimum is below both neighbours', and in every dry
+ * block, one whose minimum is 0, that has a block on either side.
  *
  * Refuses: 16, 9, 14, 10, 17.
  * On 0: all of `base` is written, BASEFLOW_NO_VALUE on every day that lies between no two turning points of a stretch.

@@ -47,6 +47,11 @@
     X(FILTER_12_Q_LOW, "filter", "refused 12, q low")                                                                  \
     X(FILTER_12_Q_HIGH, "filter", "refused 12, q high")                                                                \
     X(FILTER_12_Q_GIVEN, "filter", "refused 12, q not 0")                                                              \
+    X(FILTER_12_S_LOW, "filter", "refused 12, s low")                                                                  \
+    X(FILTER_12_S_HIGH, "filter", "refused 12, s high")                                                                \
+    X(FILTER_12_S_NEXT, "filter", "refused 12, s -10000 or 10000")                                                     \
+    X(FILTER_12_S_LEAST, "filter", "refused 12, s -2^31")                                                              \
+    X(FILTER_12_S_GIVEN, "filter", "refused 12, s in a method without it")                                             \
     X(FILTER_13_NONE, "filter", "refused 13, no pass")                                                                 \
     X(FILTER_13_FOUR, "filter", "refused 13, over 3")                                                                  \
     X(FILTER_13_OTHER, "filter", "refused 13, over 1 outside method 1")                                                \
@@ -62,6 +67,13 @@
     X(FILTER_4, "filter", "method 4")                                                                                  \
     X(FILTER_5, "filter", "method 5")                                                                                  \
     X(FILTER_6, "filter", "method 6")                                                                                  \
+    X(FILTER_7, "filter", "method 7")                                                                                  \
+    X(FILTER_7_ABOVE, "filter", "method 7, s above zero")                                                              \
+    X(FILTER_7_BELOW, "filter", "method 7, s below zero")                                                              \
+    X(FILTER_7_ENDS, "filter", "method 7, s -9999 or 9999")                                                            \
+    X(FILTER_7_AT_ZERO, "filter", "method 7, a day kept at zero")                                                      \
+    X(FILTER_7_AFTER_ZERO, "filter", "method 7, base on the day after one kept at zero")                               \
+    X(FILTER_7_CAPPED, "filter", "method 7, a day held to the flow")                                                   \
     X(FILTER_NO_DAY, "filter", "accepted, no day")                                                                     \
     X(FILTER_ALL_MISSING, "filter", "accepted, all missing")                                                           \
     X(FILTER_GAPS, "filter", "accepted, several stretches")                                                            \
@@ -69,6 +81,9 @@
     X(FILTER_MOST_DAYS, "filter", "accepted, 36,525 days")                                                             \
     X(STEP_11, "step", "refused 11")                                                                                   \
     X(STEP_12, "step", "refused 12")                                                                                   \
+    X(STEP_12_S_LOW, "step", "refused 12, s low")                                                                      \
+    X(STEP_12_S_HIGH, "step", "refused 12, s high")                                                                    \
+    X(STEP_12_S_GIVEN, "step", "refused 12, s in a method without it")                                                 \
     X(STEP_15_FLOW, "step", "refused 15, flow")                                                                        \
     X(STEP_15_BASE, "step", "refused 15, base")                                                                        \
     X(STEP_15_NEXT, "step", "refused 15, base 1000 x flow + 1")                                                        \
@@ -79,12 +94,17 @@
     X(STEP_4_FRESH, "step", "method 4, fresh")                                                                         \
     X(STEP_5_FRESH, "step", "method 5, fresh")                                                                         \
     X(STEP_6_FRESH, "step", "method 6, fresh")                                                                         \
+    X(STEP_7_FRESH, "step", "method 7, fresh")                                                                         \
     X(STEP_1_AFTER, "step", "method 1, yesterday")                                                                     \
     X(STEP_2_AFTER, "step", "method 2, yesterday")                                                                     \
     X(STEP_3_AFTER, "step", "method 3, yesterday")                                                                     \
     X(STEP_4_AFTER, "step", "method 4, yesterday")                                                                     \
     X(STEP_5_AFTER, "step", "method 5, yesterday")                                                                     \
     X(STEP_6_AFTER, "step", "method 6, yesterday")                                                                     \
+    X(STEP_7_AFTER, "step", "method 7, yesterday")                                                                     \
+    X(STEP_7_ABOVE, "step", "method 7, s above zero")                                                                  \
+    X(STEP_7_AT_ZERO, "step", "method 7, kept at zero")                                                                \
+    X(STEP_7_CAPPED, "step", "method 7, held to the flow")                                                             \
     X(STEP_MISSING_FRESH, "step", "missing day, fresh")                                                                \
     X(STEP_MISSING_AFTER, "step", "missing day, yesterday")                                                            \
     X(STEP_FRESH_UNREAD, "step", "fresh beside an impossible flow or base")                                            \
@@ -95,6 +115,7 @@
     X(STEPS_4, "steps", "method 4")                                                                                    \
     X(STEPS_5, "steps", "method 5")                                                                                    \
     X(STEPS_6, "steps", "method 6")                                                                                    \
+    X(STEPS_7, "steps", "method 7")                                                                                    \
     X(STEPS_MOST_DAYS, "steps", "36,525 days")                                                                         \
     X(LINE_16_N_LOW, "line", "refused 16, N low")                                                                      \
     X(LINE_16_N_HIGH, "line", "refused 16, N high")                                                                    \
@@ -112,6 +133,10 @@
     X(LINE_STRETCHES, "line", "accepted, lines in several stretches")                                                  \
     X(LINE_TIE, "line", "accepted, a block's minimum twice")                                                           \
     X(LINE_ALMOST, "line", "accepted, g x middle equal to 10000 x outer")                                              \
+    X(LINE_DRY, "line", "accepted, a dry block between wet ones")                                                      \
+    X(LINE_DRY_SPELL, "line", "accepted, a dry block beside another")                                                  \
+    X(LINE_DRY_OUTSIDE, "line", "accepted, a wet block beside a dry one")                                              \
+    X(LINE_17_DRY, "line", "refused 17, though a day is dry")                                                          \
     X(LINE_DROPPED, "line", "accepted, last block incomplete")                                                         \
     X(LINE_CAPPED, "line", "accepted, line held to the flow")                                                          \
     X(LINE_N_1, "line", "accepted, N 1")                                                                               \
@@ -270,17 +295,61 @@ static int any_at_flow(const struct test_case *c, const uint64_t *base)
     return 0;
 }
 
+static int bad_p(const struct test_case *c)
+{
+    return c->p < (c->method == 2 ? 3334 : 1) || c->p > 9999;
+}
+
+static int has_q(const struct test_case *c)
+{
+    return c->method == 4 || c->method == 5 || c->method == 7;
+}
+
+static int bad_q(const struct test_case *c)
+{
+    return has_q(c) ? c->q == 0 || c->q > (c->method == 5 ? 9999 : 10000) : c->q != 0;
+}
+
 static void count_parameters(const struct test_case *c)
 {
-    uint32_t least = c->method == 2 ? 3334 : 1;
-    if (c->p < least || c->p > 9999) {
-        hit(c->p < least ? FILTER_12_P_LOW : FILTER_12_P_HIGH);
+    if (bad_p(c)) {
+        hit(c->p > 9999 ? FILTER_12_P_HIGH : FILTER_12_P_LOW);
         hit_if(c->method == 2 && c->p == 3333, FILTER_12_P_3333);
-    } else if (c->method == 4 || c->method == 5) {
-        hit(c->q == 0 ? FILTER_12_Q_LOW : FILTER_12_Q_HIGH);
+    } else if (bad_q(c)) {
+        hit(!has_q(c) ? FILTER_12_Q_GIVEN : c->q == 0 ? FILTER_12_Q_LOW : FILTER_12_Q_HIGH);
     } else {
-        hit(FILTER_12_Q_GIVEN);
+        hit(c->method != 7 ? FILTER_12_S_GIVEN : c->s < 0 ? FILTER_12_S_LOW : FILTER_12_S_HIGH);
+        hit_if(c->method == 7 && (c->s == -10000 || c->s == 10000), FILTER_12_S_NEXT);
+        hit_if(c->s == INT32_MIN, FILTER_12_S_LEAST);
     }
+}
+
+// Where method 7's quotient lies on a day that has flow, by yesterday's base and flow: below zero (-1), above the day's
+// own flow (1), or between them (0).
+static int side_of(const struct test_case *c, uint64_t base, uint32_t flow, uint32_t day)
+{
+    int64_t p = c->p, q = c->q, f = (int64_t)base, u = 1000 * (int64_t)day, u_before = 1000 * (int64_t)flow;
+    int64_t sum = 10000 * (p * f + q * u) + q * c->s * u_before;
+    return day == 0 ? 0 : sum < 0 ? -1 : sum > 10000 * (10000 + q) * u;
+}
+
+static void count_method_7(const struct test_case *c, const uint64_t *base)
+{
+    int at_zero = 0, after_zero = 0, capped = 0, zero_before = 0;
+    for (size_t t = 1; t < c->days_len; t++) {
+        int present = c->days[t] != MISSING && c->days[t - 1] != MISSING;
+        int side = present ? side_of(c, base[t - 1], c->days[t - 1], c->days[t]) : 0;
+        after_zero |= present && zero_before && base[t] > 0;
+        at_zero |= side < 0;
+        capped |= side > 0;
+        zero_before = side < 0;
+    }
+    hit_if(c->s > 0, FILTER_7_ABOVE);
+    hit_if(c->s < 0, FILTER_7_BELOW);
+    hit_if(c->s == -9999 || c->s == 9999, FILTER_7_ENDS);
+    hit_if(at_zero, FILTER_7_AT_ZERO);
+    hit_if(after_zero, FILTER_7_AFTER_ZERO);
+    hit_if(capped, FILTER_7_CAPPED);
 }
 
 static void count_filter(const struct test_case *c, uint32_t answer, const uint64_t *base)
@@ -306,6 +375,8 @@ static void count_filter(const struct test_case *c, uint32_t answer, const uint6
         break;
     default:
         hit(c->method == 1 ? behind(FILTER_1_1, c->passes - 1) : behind(FILTER_2, c->method - 2));
+        if (c->method == 7)
+            count_method_7(c, base);
         hit_if(c->days_len == 0, FILTER_NO_DAY);
         hit_if(c->days_len > 0 && count_stretches(c) == 0, FILTER_ALL_MISSING);
         hit_if(count_stretches(c) > 1, FILTER_GAPS);
@@ -324,6 +395,8 @@ static void count_step(const struct test_case *c, uint32_t answer)
         break;
     case 12:
         hit(STEP_12);
+        if (!bad_p(c) && !bad_q(c))
+            hit(c->method != 7 ? STEP_12_S_GIVEN : c->s < 0 ? STEP_12_S_LOW : STEP_12_S_HIGH);
         break;
     case 15:
         hit(flow > MOST_FLOW ? STEP_15_FLOW : STEP_15_BASE);
@@ -337,6 +410,12 @@ static void count_step(const struct test_case *c, uint32_t answer)
             hit(has_yesterday == 0 ? STEP_MISSING_FRESH : STEP_MISSING_AFTER);
         else
             hit(behind(has_yesterday == 0 ? STEP_1_FRESH : STEP_1_AFTER, c->method - 1));
+        if (c->method == 7 && c->day != MISSING && has_yesterday != 0) {
+            int side = side_of(c, base, flow, c->day);
+            hit_if(c->s > 0, STEP_7_ABOVE);
+            hit_if(side < 0, STEP_7_AT_ZERO);
+            hit_if(side > 0, STEP_7_CAPPED);
+        }
         hit_if(has_yesterday == 0 && (flow > MOST_FLOW || base > 1000 * (uint64_t)flow), STEP_FRESH_UNREAD);
         hit_if(has_yesterday > 1, STEP_OTHER_MARK);
     }
@@ -345,7 +424,7 @@ static void count_step(const struct test_case *c, uint32_t answer)
 // ---- the line
 
 struct turn_view {
-    size_t most, stretches, lines, ties, equals, dropped;
+    size_t most, stretches, lines, ties, equals, dropped, dry, spells, outside;
 };
 
 static size_t lowest_of(const struct test_case *c, size_t from, struct turn_view *view)
@@ -371,7 +450,10 @@ static struct turn_view view_turns(const struct test_case *c)
             uint64_t left = 10000 * (uint64_t)c->days[lowest_of(c, at, &view)];
             uint64_t middle = c->factor * (uint64_t)c->days[lowest_of(c, at + N, &view)];
             uint64_t right = 10000 * (uint64_t)c->days[lowest_of(c, at + 2 * N, &view)];
-            turns += middle < left && middle < right;
+            turns += middle == 0 || (middle < left && middle < right);
+            view.dry += middle == 0 && left > 0 && right > 0;
+            view.spells += middle == 0 && (left == 0 || right == 0);
+            view.outside += middle > 0 && (left == 0 || right == 0);
             view.equals += middle > 0 && (middle == left || middle == right);
         }
         view.most = turns > view.most ? turns : view.most;
@@ -380,6 +462,14 @@ static struct turn_view view_turns(const struct test_case *c)
         view.dropped += turns > 1 && (end - start) % N != 0;
     }
     return view;
+}
+
+static int any_dry(const struct test_case *c)
+{
+    for (size_t t = 0; t < c->days_len; t++)
+        if (c->days[t] == 0)
+            return 1;
+    return 0;
 }
 
 static void count_line(const struct test_case *c, uint32_t answer, const uint64_t *base)
@@ -405,12 +495,16 @@ static void count_line(const struct test_case *c, uint32_t answer, const uint64_
         break;
     case 17:
         hit(view.stretches == 0 ? LINE_17_NO_TURN : view.stretches == 1 ? LINE_17_ONE_TURN : LINE_17_APART);
+        hit_if(any_dry(c), LINE_17_DRY);
         break;
     default:
         hit(view.most == 2 ? LINE_ONE : LINE_MANY);
         hit_if(view.lines > 1, LINE_STRETCHES);
         hit_if(view.ties > 0, LINE_TIE);
         hit_if(view.equals > 0, LINE_ALMOST);
+        hit_if(view.dry > 0, LINE_DRY);
+        hit_if(view.spells > 0, LINE_DRY_SPELL);
+        hit_if(view.outside > 0, LINE_DRY_OUTSIDE);
         hit_if(view.dropped > 0, LINE_DROPPED);
         hit_if(any_at_flow(c, base), LINE_CAPPED);
         hit_if(c->block_days == 1, LINE_N_1);

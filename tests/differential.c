@@ -74,7 +74,7 @@ static int may_write(enum call call, enum list list)
         case READ:                                                                                                     \
             return prefix##read(lists[BYTES], c->bytes_len, lists[DAYS], c->days_len, &small[0], &small[1]);           \
         case FILTER:                                                                                                   \
-            return prefix##filter(c->method, c->p, c->q, c->passes, lists[DAYS], c->days_len, lists[BASE],             \
+            return prefix##filter(c->method, c->p, c->q, c->s, c->passes, lists[DAYS], c->days_len, lists[BASE],       \
                                   c->base_len);                                                                        \
         case LINE:                                                                                                     \
             return prefix##line(c->block_days, c->factor, lists[DAYS], c->days_len, lists[BASE], c->base_len);         \
@@ -85,7 +85,7 @@ static int may_write(enum call call, enum list list)
             return prefix##recession(c->limb_days, lists[DAYS], c->days_len, lists[LIMBS], c->limbs_len, &small[0],    \
                                      &small[1]);                                                                       \
         default:                                                                                                       \
-            return prefix##step(c->method, c->p, c->q, c->day, &small[0], &small[1], &large[0], &large[1]);            \
+            return prefix##step(c->method, c->p, c->q, c->s, c->day, &small[0], &small[1], &large[0], &large[1]);      \
         }                                                                                                              \
     }
 MAKE_CALL(baseflow_)
@@ -175,13 +175,13 @@ static const char *compare_steps(const struct test_case *c)
 {
     static uint64_t pass[ROOM_DAYS];
     struct outs ours = c->outs, theirs = c->outs;
-    reference_filter(c->method, c->p, c->q, 1, c->days, c->days_len, pass, c->days_len);
+    reference_filter(c->method, c->p, c->q, c->s, 1, c->days, c->days_len, pass, c->days_len);
     for (size_t t = 0; t < c->days_len; t++) {
         running = &engine;
-        engine.answer = baseflow_step(c->method, c->p, c->q, c->days[t], &ours.small[0], &ours.small[1], &ours.large[0],
-                                      &ours.large[1]);
+        engine.answer = baseflow_step(c->method, c->p, c->q, c->s, c->days[t], &ours.small[0], &ours.small[1],
+                                      &ours.large[0], &ours.large[1]);
         running = &reference;
-        reference.answer = reference_step(c->method, c->p, c->q, c->days[t], &theirs.small[0], &theirs.small[1],
+        reference.answer = reference_step(c->method, c->p, c->q, c->s, c->days[t], &theirs.small[0], &theirs.small[1],
                                           &theirs.large[0], &theirs.large[1]);
         engine.outs = ours;
         reference.outs = theirs;
@@ -346,7 +346,7 @@ static void print_outs(enum call call, const struct outs *o)
 static void print_arguments(const struct test_case *c)
 {
     if (c->call == FILTER || c->call == STEP || c->call == STEPS)
-        printf("  method %" PRIu32 ", p %" PRIu32 ", q %" PRIu32 "\n", c->method, c->p, c->q);
+        printf("  method %" PRIu32 ", p %" PRIu32 ", q %" PRIu32 ", s %" PRId32 "\n", c->method, c->p, c->q, c->s);
     if (c->call == FILTER)
         printf("  passes %" PRIu32 "\n", c->passes);
     if (c->call == STEP)

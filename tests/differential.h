@@ -26,6 +26,7 @@ struct outs {
 struct test_case {
     enum call call;
     uint32_t method, p, q, passes; // FILTER, STEP and STEPS
+    int32_t s;                     // the same
     uint32_t day;                  // STEP
     uint32_t block_days, factor;   // LINE
     uint32_t limb_days;            // RECESSION

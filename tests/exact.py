@@ -18,28 +18,29 @@ import rules
 from interface import Engine, Refused, products
 
 HALF = Fraction(1, 2)
-LINE = 7  # stands for the block-minima line where a method is asked for
+LINE = "line"  # stands for the block-minima line where a method is asked for
+METHODS = (1, 2, 3, 4, 5, 6, 7)
 LEAST_RUNS = 1500
 
 
-def refusal(method, p, q, n, days):
+def refusal(method, p, q, s, n, days):
     if method == LINE:
         return rules.bad_line(n, p) or rules.no_line(n, p, days)
-    return rules.bad_setting(method, p, q) or rules.bad_passes(method, n)
+    return rules.bad_setting(method, p, q, s) or rules.bad_passes(method, n)
 
 
-def exact_run(method, p, q, n, days):
+def exact_run(method, p, q, s, n, days):
     def rule(flows):
         if method == LINE:
             return rules.line_over(Fraction, n, p, flows)
-        return rules.passes_over(Fraction, method, p, q, n, flows)
+        return rules.passes_over(Fraction, method, p, q, s, n, flows)
     return rules.over_stretches(rule, days)
 
 
-def daily_limit(method, p, q, n):
+def daily_limit(method, p, q, s, n):
     if method == LINE:
         return HALF
-    A, _, _, d = rules.weights(method, p, q)
+    A, _, _, d = rules.weights(method, p, q, s)
     return Fraction(n * d, 2 * (d - A))
 
 
@@ -66,28 +67,33 @@ def rivers(rng):
     yield "ten years with gaps", storms(rng, 3653, 0.03)
     yield "saw", [rng.randrange(3, 12) for _ in range(180)]
     yield "flow 1, then dry, again and again", ([1] * 25 + [0] * 5) * 6
+    yield "dry summers", [flow if t % 365 < 240 else 0 for t, flow in enumerate(storms(rng, 1461, 0))]
 
 
 def any_setting(rng):
-    method = rng.randrange(1, LINE + 1)
+    method = rng.choice((*METHODS, LINE))
     if method == LINE:
-        return LINE, rng.randrange(1, 10000), 0, rng.randrange(1, 31)
+        return LINE, rng.randrange(1, 10000), 0, 0, rng.randrange(1, 31)
     p = rng.randrange(3334 if method == 2 else 1, 10000)
-    q = rng.randrange(1, 10001 if method == 4 else 10000) if method in (4, 5) else 0
-    return method, p, q, rng.randrange(1, 4) if method == 1 else 1
+    q = rng.randrange(1, 10000 if method == 5 else 10001) if method in (4, 5, 7) else 0
+    s = rng.randrange(-9999, 10000) if method == 7 else 0
+    return method, p, q, s, rng.randrange(1, 4) if method == 1 else 1
 
 
 def settings(rng):
     for passes in (1, 2, 3):
-        yield 1, 9250, 0, passes
-        yield 1, 100, 0, passes
-        yield 1, rng.randrange(1, 10000), 0, passes
-    yield 1, 9999, 0, 3
+        yield 1, 9250, 0, 0, passes
+        yield 1, 100, 0, 0, passes
+        yield 1, rng.randrange(1, 10000), 0, 0, passes
+    yield 1, 9999, 0, 0, 3
     for method, p, q in ((2, 9500, 0), (2, 3334, 0), (3, 9700, 0), (4, 9000, 500), (4, 9999, 1), (5, 9780, 8000),
                          (5, 9999, 9999), (6, 5000, 0), (6, 9999, 0)):
-        yield method, p, q, 1
+        yield method, p, q, 0, 1
+    for p, q, s in ((9700, 300, -2000), (9999, 1, -9999), (9999, 10000, 9999), (1, 10000, -9999), (5000, 10000, -6000),
+                    (9999, 10000, -9999), (9500, 1000, 0)):
+        yield 7, p, q, s, 1
     for days_per_block, factor in ((1, 9000), (5, 9000), (5, 9999), (3, 1), (16, 9500), (30, 9000)):
-        yield LINE, factor, 0, days_per_block
+        yield LINE, factor, 0, 0, days_per_block
 
 
 def cases():
@@ -96,13 +102,16 @@ def cases():
         for setting in [*settings(rng), *(any_setting(rng) for _ in range(50))]:
             yield name, setting, rng.randrange(100_000), river
     full = storms(rng, 36525, 0.03)
-    for setting in ((1, 9250, 0, 3), (5, 9780, 8000, 1), (LINE, 9000, 0, 5)):
+    for setting in ((1, 9250, 0, 0, 3), (5, 9780, 8000, 0, 1), (7, 9700, 300, -2000, 1), (LINE, 9000, 0, 0, 5)):
         yield "36,525 days", setting, 99_999, full
     for _ in range(800):
         river = [rng.randrange(rng.choice((4, 100, 10_000_001))) for _ in range(rng.randrange(1, 60))]
         yield "any", any_setting(rng), 0, river
-    for setting in ((0, 1, 0, 1), (1, 0, 0, 1), (3, 1, 1, 1), (2, 3333, 0, 1), (1, 9250, 0, 4), (2, 9500, 0, 2),
-                    (LINE, 9000, 0, 31), (LINE, 0, 0, 5), (LINE, 9000, 0, 5)):
+    for setting in ((0, 1, 0, 0, 1), (8, 9700, 300, 0, 1), (1, 0, 0, 0, 1), (3, 1, 1, 0, 1), (2, 3333, 0, 0, 1),
+                    (7, 9700, 0, 0, 1), (7, 9700, 10001, 0, 1), (7, 9700, 300, 10000, 1), (7, 9700, 300, -10000, 1),
+                    *((method, 9700, 300 if method in (4, 5) else 0, s, 1) for method in METHODS[:-1] for s in (1, -1)),
+                    (1, 9250, 0, 0, 4), (2, 9500, 0, 0, 2), (7, 9700, 300, -2000, 2), (LINE, 9000, 0, 0, 31),
+                    (LINE, 0, 0, 0, 5), (LINE, 9000, 0, 0, 5)):
         yield "three days", setting, 0, [5, 4, 6]
 
 
@@ -135,19 +144,19 @@ def refused(call, *arguments):
 
 
 def measure(engine, setting, first, stated, shares):
-    method, p, q, n = setting
+    method, p, q, s, n = setting
     assert engine.read(rules.record(first, stated)) == (first, stated), "other days than the record states"
     days = stated
-    number, base = refused(engine.line, n, p, days) if method == LINE else refused(engine.filter, method, p, q, n, days)
-    wanted = refusal(method, p, q, n, days)
+    number, base = refused(engine.line, n, p, days) if method == LINE else refused(engine.filter, *setting, days)
+    wanted = refusal(*setting, days)
     assert number == wanted, f"base flow answers {number}, where {wanted} is due"
     if wanted is not None:
         return
-    exact, limit = exact_run(method, p, q, n, days), daily_limit(method, p, q, n)
+    exact, limit = exact_run(*setting, days), daily_limit(*setting)
     name = "line" if method == LINE else f"method 1, {n} pass{'es' * (n > 1)}" if method == 1 else f"method {method}"
     shares.days_within(name, days, base, exact, limit)
     if method != LINE and n == 1:
-        shares.days_within("daily steps", days, engine.steps(method, p, q, days), exact, limit)
+        shares.days_within("daily steps", days, engine.steps(method, p, q, s, days), exact, limit)
 
     counted = [(y, f) for y, f in zip(days, exact) if f is not None]
     m, Y = len(counted), sum(y for y, _ in counted)
@@ -163,21 +172,38 @@ def measure(engine, setting, first, stated, shares):
     shares.within("index", index, 10 * T_exact / Y, HALF + 10 * m * limit / Y)
 
 
-# document 01, "Rivers worked through"
+# document 01, "Rivers worked through": rule 8.1
 def worked_rivers(engine):
     line = [None, 8000, 8333, 8667, 9000, None]
     flows = [10, 8, 10, 20, 9, 30]
+    dry_block = [12, 11, 10, 13, 14] + [0] * 5 + [15, 10, 12, 11, 13, 9, 8, 8, 9, 10, 10, 12, 13, 14, 15]
     return [
-        ("method 1", engine.filter(1, 9250, 0, 1, [100, 200]), [50000, 57500]),
-        ("method 1, falling", engine.filter(1, 9250, 0, 1, [1000, 10]), [500000, 10000]),
-        ("method 5", engine.filter(5, 9770, 8000, 1, [100, 100]), [72000, 72842]),
-        ("method 6", engine.filter(6, 5000, 0, 1, [1] * 6), [500, 750, 875, 938, 969, 985]),
-        ("method 2, p 3333", refused(engine.filter, 2, 3333, 0, 1, [1])[0], 12),
-        ("method 2, p 3334", refused(engine.filter, 2, 3334, 0, 1, [1])[0], None),
+        ("method 1", engine.filter(1, 9250, 0, 0, 1, [100, 200]), [50000, 57500]),
+        ("method 1, falling", engine.filter(1, 9250, 0, 0, 1, [1000, 10]), [500000, 10000]),
+        ("method 5", engine.filter(5, 9770, 8000, 0, 1, [100, 100]), [72000, 72842]),
+        ("method 6", engine.filter(6, 5000, 0, 0, 1, [1] * 6), [500, 750, 875, 938, 969, 985]),
+        ("method 2, p 3333", refused(engine.filter, 2, 3333, 0, 0, 1, [1])[0], 12),
+        ("method 2, p 3334", refused(engine.filter, 2, 3334, 0, 0, 1, [1])[0], None),
+        ("method 7, below zero", engine.filter(7, 100, 1000, -5000, 1, [1000, 2]), [500000, 0]),
+        ("method 7, below zero, exactly", exact_run(7, 100, 1000, -5000, 1, [1000, 2]), [500000, 0]),
+        ("method 7, below zero, daily", engine.steps(7, 100, 1000, -5000, [1000, 2]), [500000, 0]),
+        ("method 7, s 0", engine.filter(7, 9250, 500, 0, 1, flows), engine.filter(4, 9250, 500, 0, 1, flows)),
+        ("methods 1 to 6, s 1", [refused(engine.filter, method, 9250, 500 if method in (4, 5) else 0, 1, 1, [1])[0]
+                                 for method in METHODS[:-1]], [12] * 6),
+        ("method 7, s at its ends and beyond", [refused(engine.filter, 7, 9250, 500, s, 1, [1])[0]
+                                                for s in (-10000, -9999, 9999, 10000)], [12, None, None, 12]),
+        ("method 7, two passes", refused(engine.filter, 7, 9250, 500, 0, 2, [1])[0], 13),
         ("line", engine.line(1, 9000, flows), line),
         ("line's index", engine.totals(flows, line)[4], 7234),
         ("10 beside 9 does not turn", refused(engine.line, 1, 9000, [9, 10, 20, 8, 20])[0], 17),
         ("10 beside 10 turns", engine.line(1, 9000, [10, 10, 20, 8, 20])[1], 10000),
+        ("dry days", engine.line(1, 9000, [5, 0, 0, 0, 5]), [None, 0, 0, 0, None]),
+        ("two dry days", engine.line(1, 9000, [3, 0, 4, 6, 0, 5]), [None, 0, 0, 0, 0, None]),
+        ("a dry block", engine.line(5, 9000, dry_block),
+         [None] * 5 + [0] * 5 + [3636, 4364, 5091, 5818, 6545, 7273, 8000] + [None] * 8),
+        ("no flow", engine.line(1, 9000, [0] * 5), [None, 0, 0, 0, None]),
+        ("no flow, no totals", refused(engine.totals, [0] * 5, [None, 0, 0, 0, None])[0], 21),
+        ("two dry blocks alone", refused(engine.line, 1, 9000, [0, 0])[0], 17),
         ("L 3", engine.recession(3, [100, 90, 81]), (2, 9000, [(0, 3)])),
         ("L 4", refused(engine.recession, 4, [100, 90, 81])[0], 19),
         ("lower middle", engine.recession(3, [100, 50, 40]), (2, 5000, [(0, 3)])),

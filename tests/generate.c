@@ -1,5 +1,5 @@
 // The generator of the differential runs. It aims at the edges of document 01: limits and their neighbours, marks,
-// ties, falls through gaps, full lists, lists of different lengths, and records damaged by cutting, flipping and
+// ties, falls through gaps, dry spells, full lists, lists of different lengths, and records damaged by cutting, flipping and
 // inserting.
 #include <string.h>
 
@@ -32,11 +32,10 @@ static int one_in(uint32_t n)
     return below(n) == 0;
 }
 
-#define AMONG(...) among((const uint32_t[]){__VA_ARGS__}, sizeof((const uint32_t[]){__VA_ARGS__}) / sizeof(uint32_t))
-static uint32_t among(const uint32_t *values, size_t count)
-{
-    return values[below((uint32_t)count)];
-}
+#define AMONG_OF(type, ...)                                                                                            \
+    (((const type[]){__VA_ARGS__})[below((uint32_t)(sizeof((const type[]){__VA_ARGS__}) / sizeof(type)))])
+#define AMONG(...) AMONG_OF(uint32_t, __VA_ARGS__)
+#define AMONG_SIGNED(...) AMONG_OF(int32_t, __VA_ARGS__)
 
 // Whether a case gets a certain cause to be refused. A rough case gets several, so that their order shows.
 static int rough;
@@ -56,7 +55,7 @@ static size_t day_list_length(void)
     return below(one_in(3) ? 8 : 40);
 }
 
-enum { TINY, SMALL, ANY, ENDS, RIVER, CONSTANT, SAW, STYLES };
+enum { TINY, SMALL, ANY, ENDS, RIVER, DRY, CONSTANT, SAW, STYLES };
 
 static uint32_t flow_of(uint32_t style, uint32_t before)
 {
@@ -73,6 +72,10 @@ static uint32_t flow_of(uint32_t style, uint32_t before)
         if (one_in(30) || before == 0)
             return between(1, one_in(4) ? MOST_FLOW : 5000);
         return before - (before + 39) / 40;
+    case DRY: // a river that dries up, for days or for weeks
+        if (before == 0)
+            return one_in(one_in(3) ? 40 : 4) ? between(1, 300) : 0;
+        return one_in(8) ? 0 : one_in(6) ? before + below(50) : before - before / 8;
     case CONSTANT:
         return before;
     default: // a fall with ties and small rises
@@ -118,14 +121,19 @@ static void fill_base(struct test_case *c)
 
 static void fill_setting(struct test_case *c)
 {
-    c->method = spoil() ? AMONG(0, 7, 8, MISSING, 0x80000001, 257) : between(1, 6);
-    uint32_t least = c->method == 2 ? 3334 : 1, most_q = c->method == 4 ? 10000 : 9999;
+    c->method = spoil() ? AMONG(0, 8, 9, MISSING, 0x80000001, 257) : between(1, 7);
+    uint32_t least = c->method == 2 ? 3334 : 1, most_q = c->method == 5 ? 9999 : 10000;
+    int has_q = c->method == 4 || c->method == 5 || c->method == 7, has_s = c->method == 7;
     c->p = one_in(3) ? AMONG(least, 9999, 5000, 9250, 9998, least + 1) : between(least, 9999);
-    c->q = c->method != 4 && c->method != 5 ? 0 : one_in(3) ? AMONG(1, most_q, 5000, 8000) : between(1, most_q);
+    c->q = !has_q ? 0 : one_in(3) ? AMONG(1, most_q, 5000, 8000) : between(1, most_q);
+    c->s = !has_s ? 0 : one_in(3) ? AMONG_SIGNED(-9999, 9999, -1, 0, 1, -5000) : (int32_t)below(19999) - 9999;
     if (spoil())
         c->p = AMONG(0, least - 1, 10000, 10001, MISSING);
     else if (spoil())
         c->q = c->q == 0 ? AMONG(1, 5000, MISSING) : AMONG(0, most_q + 1, 20000, MISSING);
+    else if (spoil())
+        c->s = has_s ? AMONG_SIGNED(-10000, 10000, INT32_MIN, INT32_MAX, -10001, 65536)
+                     : AMONG_SIGNED(1, -1, 9999, -9999, INT32_MIN, INT32_MAX);
     c->passes = c->method == 1 ? between(1, 3) : 1;
     if (spoil())
         c->passes = c->method == 1 ? AMONG(0, 4, MISSING) : AMONG(0, 2, 3, 4);
@@ -159,10 +167,10 @@ static void make_steps(struct test_case *c)
     c->outs.small[0] = 0; // fresh, beside any flow and base
     do
         fill_setting(c);
-    while (reference_filter(c->method, c->p, c->q, 1, c->days, 0, c->base, 0) != 0);
+    while (reference_filter(c->method, c->p, c->q, c->s, 1, c->days, 0, c->base, 0) != 0);
     do
         fill_days(c);
-    while (reference_filter(c->method, c->p, c->q, 1, c->days, c->days_len, c->base, c->days_len) != 0);
+    while (reference_filter(c->method, c->p, c->q, c->s, 1, c->days, c->days_len, c->base, c->days_len) != 0);
 }
 
 static void make_line(struct test_case *c)
@@ -179,7 +187,7 @@ static void make_totals(struct test_case *c)
     fill_days(c);
     fill_base(c);
     if (one_in(3)) // what a filter or the line gives
-        (void)(one_in(2) ? reference_filter(1, between(1, 9999), 0, 1, c->days, c->days_len, c->base, c->base_len)
+        (void)(one_in(2) ? reference_filter(1, between(1, 9999), 0, 0, 1, c->days, c->days_len, c->base, c->base_len)
                          : reference_line(1, between(1, 9999), c->days, c->days_len, c->base, c->base_len));
     uint32_t share = below(5);
     for (size_t t = 0; t < c->base_len; t++) {

@@ -18,17 +18,19 @@ import rules
 from interface import products
 
 NAMES = {1: "1 Lyne-Hollick", 2: "2 Chapman 1991", 3: "3 Chapman-Maxwell", 4: "4 Boughton", 5: "5 Eckhardt",
-         6: "6 Tularam-Ilahee"}
-# method, p, q, passes
-USUAL = ((1, 9250, 0, 1), (1, 9250, 0, 2), (1, 9250, 0, 3), (1, 9000, 0, 1), (1, 9500, 0, 1), (1, 9800, 0, 3),
-         (2, 9250, 0, 1), (2, 9500, 0, 1), (3, 9500, 0, 1), (3, 9700, 0, 1), (4, 9000, 500, 1), (4, 9500, 1000, 1),
-         (5, 9780, 8000, 1), (5, 9780, 5000, 1), (5, 9780, 2500, 1), (6, 9250, 0, 1), (6, 9500, 0, 1))
+         6: "6 Tularam-Ilahee", 7: "7 Jakeman-Hornberger"}
+# method, p, q, s, passes
+USUAL = ((1, 9250, 0, 0, 1), (1, 9250, 0, 0, 2), (1, 9250, 0, 0, 3), (1, 9000, 0, 0, 1), (1, 9500, 0, 0, 1),
+         (1, 9800, 0, 0, 3), (2, 9250, 0, 0, 1), (2, 9500, 0, 0, 1), (3, 9500, 0, 0, 1), (3, 9700, 0, 0, 1),
+         (4, 9000, 500, 0, 1), (4, 9500, 1000, 0, 1), (5, 9780, 8000, 0, 1), (5, 9780, 5000, 0, 1),
+         (5, 9780, 2500, 0, 1), (6, 9250, 0, 0, 1), (6, 9500, 0, 0, 1), (7, 9700, 300, -2000, 1),
+         (7, 9500, 1000, -5000, 1))
 LINE_LIMIT = Fraction(1, 2)
 CLOSE = Fraction(98, 100)  # a share of a limit that leaves no room for a much smaller one
 
 
-def daily_limit(method, p, q, passes):
-    A, _, _, d = rules.weights(method, p, q)
+def daily_limit(method, p, q, s, passes):
+    A, _, _, d = rules.weights(method, p, q, s)
     return Fraction(passes * d, 2 * (d - A))
 
 
@@ -48,19 +50,20 @@ def down(value, places):
 
 
 def table():
-    yield "| method | p | q | passes | P, in thousandths of a litre a second |"
-    yield "|---|---|---|---|---|"
-    for method, p, q, passes in USUAL:
-        assert rules.bad_setting(method, p, q) is None
-        limit = up(daily_limit(method, p, q, passes), 3)
-        yield f"| {NAMES[method]} | {p} | {str(q) + ' ' if q else ''}| {passes} | {limit} |"
-    yield f"| minima line | any N and g | | | {up(LINE_LIMIT, 3)} |"
+    yield "| method | p | q | s | passes | P, in thousandths of a litre a second |"
+    yield "|---|---|---|---|---|---|"
+    for method, p, q, s, passes in USUAL:
+        assert rules.bad_setting(method, p, q, s) is None
+        limit = up(daily_limit(method, p, q, s, passes), 3)
+        used = "".join(f"{n} | " if n else "| " for n in (q, s))
+        yield f"| {NAMES[method]} | {p} | {used}{passes} | {limit} |"
+    yield f"| minima line | any N and g | | | | {up(LINE_LIMIT, 3)} |"
 
 
 def example():
-    method, p, q, passes = USUAL[0]
+    method, p, _, _, _ = USUAL[0]
     mean, index = 100, 6123
-    limit = daily_limit(method, p, q, passes)
+    limit = daily_limit(*USUAL[0])
     around = Fraction(1, 2) + 10 * limit / mean
     yield (f"With method {method}, p {p}, one pass and a mean flow Y / m of {mean} litres a second the index's limit is "
            f"1/2 + 10 × {up(limit, 3)} / {mean}, which is {up(around, 2)} ten-thousandths: an index of "

@@ -71,9 +71,10 @@ class Engine:
                   ctypes.byref(count))
         return first.value, [None if day == MISSING else day for day in days[:count.value]]
 
-    def filter(self, method, p, q, passes, days):
+    def filter(self, method, p, q, s, passes, days):
         base = listed(ctypes.c_uint64, [0] * len(days))
-        self.call("filter", *map(ctypes.c_uint32, (method, p, q, passes)), day_list(days), size(days), base, size(days))
+        self.call("filter", *setting(method, p, q, s), ctypes.c_uint32(passes), day_list(days), size(days), base,
+                  size(days))
         return base_values(base, days)
 
     def line(self, block_days, factor, days):
@@ -82,12 +83,12 @@ class Engine:
                   size(days))
         return base_values(base, days)
 
-    def steps(self, method, p, q, days):
+    def steps(self, method, p, q, s, days):
         """The values of daily steps from a fresh state."""
         state = ctypes.c_uint32(0), ctypes.c_uint32(0), ctypes.c_uint64(0)
         value, values = ctypes.c_uint64(), []
         for day in days:
-            self.call("step", *map(ctypes.c_uint32, (method, p, q, MISSING if day is None else day)),
+            self.call("step", *setting(method, p, q, s), ctypes.c_uint32(MISSING if day is None else day),
                       *map(ctypes.byref, state), ctypes.byref(value))
             values.append(None if value.value == NO_VALUE else value.value)
         return values
@@ -108,6 +109,10 @@ class Engine:
         self.call("recession", ctypes.c_uint32(limb_days), day_list(days), size(days), limbs, size(days),
                   ctypes.byref(count), ctypes.byref(ratio))
         return count.value, ratio.value, sorted(pair for pair in zip(limbs[::2], limbs[1::2]) if pair != (0, 0))
+
+
+def setting(method, p, q, s):
+    return *map(ctypes.c_uint32, (method, p, q)), ctypes.c_int32(s)
 
 
 def size(values):

@@ -12,14 +12,33 @@ REST_TEST = "if (left > 4) return 8;"
 TOTAL_TEST = "if (count > MOST_DAYS) return 5;"
 ROOM_TEST = "if (count > days_len) return 6;"
 BACKWARD = "if (passes >= 2) later_pass(&w, base + t - 1, t - start, -1);"
-SUM = "w->a * f + w->b * u + w->c * u_before"
+SUM = "w->a * f + w->b * u + (uint64_t)w->c * u_before"
+AT_ZERO = "sum < 0 ? 0 : smaller(u, near((uint64_t)sum, w->d))"
+S_TEST = "method == 7 ? s < -9999 || s > 9999 : s != 0"
+NEXT_DAY = "f = next(&w, f, u, u_before); base[t] = f;"
 
 FAULTS = (
     ("halves go down", "(a + b / 2) / b", "(a + (b - 1) / 2) / b"),
     ("A / d is rounded before multiplying", f"near({SUM}, w->d)",
-     "w->a * 10000 / w->d * f / 10000 + near(w->b * u + w->c * u_before, w->d)"),
-    ("only the written base is held to the flow", "f = next(&w, f, u, u_before); base[t] = f;",
-     "f = near(w.a * f + w.b * u + w.c * u_before, w.d); base[t] = smaller(u, f);"),
+     "w->a * 10000 / w->d * f / 10000 + near(w->b * u + (uint64_t)w->c * u_before, w->d)"),
+    ("only the written base is held to the flow", NEXT_DAY,
+     "f = w.c < 0 ? next(&w, f, u, u_before) : near(w.a * f + w.b * u + (uint64_t)w.c * u_before, w.d); "
+     "base[t] = smaller(u, f);"),
+    ("only the written base is kept at zero", NEXT_DAY,
+     "int64_t raw = ((int64_t)(w.a * f + w.b * u) + w.c * (int64_t)u_before) / (int64_t)w.d; "
+     "f = raw < 0 ? (uint64_t)raw : next(&w, f, u, u_before); base[t] = raw < 0 ? 0 : f;"),
+    ("below zero is wrapped", AT_ZERO, "smaller(u, near((uint64_t)sum, w->d))"),
+    ("below zero is the flow", AT_ZERO, "sum < 0 ? u : smaller(u, near((uint64_t)sum, w->d))"),
+    ("below zero is its distance from zero", AT_ZERO, "smaller(u, near((uint64_t)(sum < 0 ? -sum : sum), w->d))"),
+    ("the sign of s is dropped", "(int64_t)Q * s", "(int64_t)Q * (s < 0 ? -s : s)"),
+    ("s counts today's flow", "w->c * (int64_t)u_before", "w->c * (int64_t)u"),
+    ("s is left out", "(int64_t)Q * s", "0"),
+    ("method 4 takes s", S_TEST, "method == 7 ? s < -9999 || s > 9999 : s != 0 && method != 4"),
+    ("method 7 takes s -10000", S_TEST, "method == 7 ? s < -10000 || s > 9999 : s != 0"),
+    ("method 7 takes s 10000", S_TEST, "method == 7 ? s < -9999 || s > 10000 : s != 0"),
+    ("method 7 takes no s below zero", S_TEST, "method == 7 ? s < 0 || s > 9999 : s != 0"),
+    ("method 7 takes two passes", "method == 1 ? 3 : 1", "method == 1 ? 3 : method == 7 ? 2 : 1"),
+    ("method 8 is taken", "within(method, 1, 7)", "within(method, 1, 8)"),
     ("a filter carries base over a gap", "f = first(method, q, days[t]);",
      "f = t > 1 && days[t - 2] != MISSING ? base[t - 2] : first(method, q, days[t]);"),
     ("a step carries yesterday over a gap", "*has_yesterday = 0;", ";"),
@@ -38,6 +57,10 @@ FAULTS = (
      "*day_count = 0; if (refusal != 0) return refusal; const uint8_t *at"),
     ("the latest of equal minima", "days[t] < days[low]", "days[t] <= days[low]"),
     ("a turning point at equality", "factor * middle < 10000 * left", "factor * middle <= 10000 * left"),
+    ("a dry block is compared like any other", "if (middle == 0) return 1;", ";"),
+    ("a dry neighbour makes a block turn", "if (middle == 0)", "if (middle == 0 || left == 0)"),
+    ("a litre a second counts as dry", "if (middle == 0)", "if (middle <= 1)"),
+    ("only the first dry block of a spell turns", "if (middle == 0) return 1;", "if (middle == 0) return left != 0;"),
     ("an incomplete block is kept", "(end - t) / block_days;", "(end - t + block_days - 1) / block_days;"),
     ("a write before 17", "if (done == 0) return 17;",
      "if (days_len > 0 && done == 0) base[0] = NO_VALUE; if (done == 0) return 17;"),

@@ -11,10 +11,10 @@
 
 uint32_t NAME(read)(const uint8_t *bytes, size_t bytes_len, uint32_t *days, size_t days_len, uint32_t *first_day,
                     uint32_t *day_count);
-uint32_t NAME(filter)(uint32_t method, uint32_t p, uint32_t q, uint32_t passes, const uint32_t *days, size_t days_len,
-                      uint64_t *base, size_t base_len);
-uint32_t NAME(step)(uint32_t method, uint32_t p, uint32_t q, uint32_t day, uint32_t *has_yesterday, uint32_t *flow,
-                    uint64_t *base, uint64_t *value);
+uint32_t NAME(filter)(uint32_t method, uint32_t p, uint32_t q, int32_t s, uint32_t passes, const uint32_t *days,
+                      size_t days_len, uint64_t *base, size_t base_len);
+uint32_t NAME(step)(uint32_t method, uint32_t p, uint32_t q, int32_t s, uint32_t day, uint32_t *has_yesterday,
+                    uint32_t *flow, uint64_t *base, uint64_t *value);
 uint32_t NAME(line)(uint32_t block_days, uint32_t factor, const uint32_t *days, size_t days_len, uint64_t *base,
                     size_t base_len);
 uint32_t NAME(totals)(const uint32_t *days, size_t days_len, const uint64_t *base, size_t base_len, uint32_t *base_days,

@@ -38,10 +38,11 @@ def bad_lists(days, base):
     return Refusal(14) if len(days) != len(base) else bad_days(days)
 
 
-def filter_call(method, p, q, passes, days, base):
-    cause = rules.bad_setting(method, p, q) or rules.bad_passes(method, passes) or bad_lists(days, base)
+def filter_call(method, p, q, s, passes, days, base):
+    cause = rules.bad_setting(method, p, q, s) or rules.bad_passes(method, passes) or bad_lists(days, base)
     if not cause:
-        base[:] = marks(rules.over_stretches(lambda y: rules.passes_over(near, method, p, q, passes, y), views(days)))
+        setting = method, p, q, s, passes
+        base[:] = marks(rules.over_stretches(lambda y: rules.passes_over(near, *setting, y), views(days)))
     return cause
 
 
@@ -94,8 +95,9 @@ def river(count, seed, gaps):
         store -= store // 16
         if drawn < 429_496_730 and store < 100_000_000:
             store += drawn // 64
-        gap = [False, i < 100, i >= count - 100, drawn % 13 == 0][gaps]
-        days.append(MISSING if gap else store // 16)
+        gap = [False, i < 100, i >= count - 100, drawn % 13 == 0, False][gaps]
+        dry = gaps == 4 and i % 365 >= 240
+        days.append(MISSING if gap else 0 if dry else store // 16)
     return days
 
 
@@ -139,9 +141,9 @@ def answer(result, accepted):
     return words(': refused', result) if isinstance(result, Refusal) else words(': ' + accepted, *(result or ()))
 
 
-def show_filter(method, p, q, passes, days, base):
-    cause = filter_call(method, p, q, passes, days, base)
-    out.append(words('filter', method, p, q, passes) + answer(cause, 'accepted') + base_text(base))
+def show_filter(method, p, q, s, passes, days, base):
+    cause = filter_call(method, p, q, s, passes, days, base)
+    out.append(words('filter', method, p, q, s, passes) + answer(cause, 'accepted') + base_text(base))
 
 
 def show_line(block_days, factor, days, base):
@@ -167,14 +169,14 @@ def show_read(data, days):
     out.append(words('read', len(data)) + answer(result, 'stated') + words(', days', check_sum(days)))
 
 
-def show_steps(method, p, q, days):
+def show_steps(method, p, q, s, days):
     base = [0] * len(days)
-    assert filter_call(method, p, q, 1, days, base) is None    # steps from a fresh state give pass 1
+    assert filter_call(method, p, q, s, 1, days, base) is None    # steps from a fresh state give pass 1
     out.append(words('steps', method, check_sum(base)))
 
 
 def show_step(flow, base, method, p, day):
-    cause = rules.bad_setting(method, p, 0)
+    cause = rules.bad_setting(method, p, 0, 0)
     if not cause and (flow > rules.MOST_FLOW or base > 1000 * flow):
         cause = Refusal(15)
     cause = cause or bad_days([day])
@@ -185,12 +187,13 @@ def show_step(flow, base, method, p, day):
 def thirty_years(seed, gaps):
     days, base = river(10957, seed, gaps), [0] * 10957
     out.append(words('thirty years', gaps) + words(', days', check_sum(days)))
-    for setting in ((1, 9250, 0, 1), (1, 9250, 0, 2), (1, 9250, 0, 3), (2, 9500, 0, 1), (3, 9250, 0, 1),
-                    (4, 9780, 500, 1), (5, 9780, 8000, 1), (6, 9250, 0, 1)):
+    for setting in ((1, 9250, 0, 0, 1), (1, 9250, 0, 0, 2), (1, 9250, 0, 0, 3), (2, 9500, 0, 0, 1), (3, 9250, 0, 0, 1),
+                    (4, 9780, 500, 0, 1), (5, 9780, 8000, 0, 1), (6, 9250, 0, 0, 1), (7, 9700, 300, -9999, 1)):
         show_filter(*setting, days, base)
         show_totals(days, base)
-    show_steps(1, 9250, 0, days)
-    show_steps(5, 9780, 8000, days)
+    show_steps(1, 9250, 0, 0, days)
+    show_steps(5, 9780, 8000, 0, days)
+    show_steps(7, 9700, 300, -9999, days)
     for setting in ((1, 9000), (5, 9000), (5, 9999), (7, 1), (30, 9500)):
         show_line(*setting, days, base)
         show_totals(days, base)
@@ -205,7 +208,7 @@ def full_record():
         data += bytes([3]) if d == MISSING else bytes([2]) + d.to_bytes(4, 'little')
     data += bytes([9]) + (36525).to_bytes(4, 'little')
     show_read(data, days)
-    show_filter(1, 9250, 0, 3, days, base)
+    show_filter(1, 9250, 0, 0, 3, days, base)
     show_totals(days, base)
     show_line(5, 9000, days, base)
     show_totals(days, base)
@@ -218,16 +221,17 @@ def refusals():
                  head + [3, 3, 3], head + [9, 1, 0, 0, 0], head + [9, 0, 0, 0, 0, 0]):
         show_read(bytes(data), days)
     days, base, limbs = [100, 200], [7, 7], [7, 7]
-    for setting in ((7, 9250, 0, 1), (2, 3333, 0, 1), (2, 9250, 0, 2), (2, 3334, 0, 1)):
+    for setting in ((8, 9250, 0, 0, 1), (2, 3333, 0, 0, 1), (4, 9250, 500, 1, 1), (7, 9250, 500, -10_000, 1),
+                    (2, 9250, 0, 0, 2), (2, 3334, 0, 0, 1)):
         show_filter(*setting, days, base)
     for setting in ((31, 9000), (5, 10_000)):
         show_line(*setting, days, base)
     for limb_days in (1, 61):
         show_ratios(limb_days, days, limbs)
     days, base = [100, 10_000_001], [7, 7]
-    show_filter(1, 9250, 0, 1, [1] * 36526, base)
-    show_filter(1, 9250, 0, 1, days, [7])
-    show_filter(1, 9250, 0, 1, days, base)
+    show_filter(1, 9250, 0, 0, 1, [1] * 36526, base)
+    show_filter(1, 9250, 0, 0, 1, days, [7])
+    show_filter(1, 9250, 0, 0, 1, days, base)
     show_line(5, 9000, days, base)
     show_totals(days, base)
     show_step(5, 5001, 0, 0, 10_000_001)
@@ -250,7 +254,7 @@ def published():
     days, base = steady(10957, 1_000_000, 0, 0), [0] * 10957
     for method, p, q, known in ((5, 9780, 8000, 8000), (5, 9780, 5000, 5000), (5, 9780, 2500, 2500), (1, 9000, 0, 10000),
                                 (1, 9250, 0, 10000), (1, 9500, 0, 10000)):
-        show_filter(method, p, q, 1, days, base)
+        show_filter(method, p, q, 0, 1, days, base)
         assert_index(show_totals(days, base)[4], known, method, p, q, len(days), 1_000_000)
     days, base = steady(1000, 100, 10, 1000), [0] * 1000
     show_line(5, 9000, days, base)
@@ -262,14 +266,14 @@ def published():
 def assert_index(index, known, method, p, q, count, flow):
     """A steady river's base flow is the published share of its flow, but for the start: what the start lacks shrinks by A/d a
     day, so that it lacks that by d / (d - A) in all. The index lies within demand 3's limit of this."""
-    A, _, _, d = rules.weights(method, p, q)
+    A, _, _, d = rules.weights(method, p, q, 0)
     lacking = Fraction(known, 10) if method == 5 else Fraction(10000, 2)
     exact = known - lacking * Fraction(d, d - A) / count
     assert abs(index - exact) <= Fraction(1, 2) + 10 * Fraction(d, 2 * (d - A)) / flow, (index, exact)
 
 
 def main():
-    for seed, gaps in ((1, 0), (2, 1), (3, 2), (4, 3)):
+    for seed, gaps in ((1, 0), (2, 1), (3, 2), (4, 3), (5, 4)):
         thirty_years(seed, gaps)
     full_record()
     refusals()

@@ -1,7 +1,8 @@
 """Document 01's rules in python, for the tests; nothing is shared with the engine.
 
 Whole numbers of any size; a missing day and a day without a value are None. `over` divides: near for the rounded run,
-Fraction for the exact one. A call answers its values, or the number of its refusal as a Refusal.
+Fraction for the exact one. A call answers its values, or the number of its refusal as a Refusal. The sections are those
+of docs/RULES.md, with its numbers.
 """
 
 MOST_DAYS, MOST_FLOW, LAST_FIRST_DAY = 36525, 10_000_000, 99_999
@@ -12,11 +13,12 @@ class Refusal(int):
     """The number of a refusal."""
 
 
+# "Units": 1.4
 def near(a, b):
     return (2 * a + b) // (2 * b)
 
 
-# "The record"
+# "The record": 2.1 to 2.7
 def read(data, room):
     """The first day and the stated days."""
     first, days, at = None, [], 0
@@ -64,7 +66,7 @@ def record(first, days):
     return b"".join(parts)
 
 
-# "Filters"
+# "Filters": 3.1 to 3.7
 def stretches(days):
     """The first place and the flows of each longest list of neighbouring present days."""
     found, start = [], None
@@ -85,8 +87,8 @@ def over_stretches(rule, days):
     return values
 
 
-def weights(method, p, q):
-    """A, B, C and d."""
+def weights(method, p, q, s):
+    """A, B, C and d. C may be below zero."""
     return {
         1: (2 * p, 10000 - p, 10000 - p, 20000),
         2: (3 * p - 10000, 10000 - p, 10000 - p, 30000 - p),
@@ -94,6 +96,7 @@ def weights(method, p, q):
         4: (p, q, 0, 10000 + q),
         5: (p * (10000 - q), (10000 - p) * q, 0, 10**8 - p * q),
         6: (p, 10000 - p, 0, 10000),
+        7: (10000 * p, 10000 * q, q * s, 10000 * (10000 + q)),
     }[method]
 
 
@@ -101,13 +104,14 @@ def one_pass(over, w, u, start):
     A, B, C, d = w
     f = [start]
     for today, before in zip(u[1:], u):
-        f.append(min(today, over(A * f[-1] + B * today + C * before, d)))
+        quotient = over(A * f[-1] + B * today + C * before, d)
+        f.append(0 if quotient < 0 else min(today, quotient))
     return f
 
 
-def passes_over(over, method, p, q, passes, flows):
+def passes_over(over, method, p, q, s, passes, flows):
     """The filter of one stretch."""
-    w = weights(method, p, q)
+    w = weights(method, p, q, s)
     first = over(9 * q * flows[0], 100) if method == 5 else 500 * flows[0]
     f = one_pass(over, w, [1000 * y for y in flows], first)
     for n in range(2, passes + 1):
@@ -117,12 +121,13 @@ def passes_over(over, method, p, q, passes, flows):
     return f
 
 
-def bad_setting(method, p, q):
+def bad_setting(method, p, q, s):
     """11 or 12, or None."""
-    if not 1 <= method <= 6:
+    if not 1 <= method <= 7:
         return Refusal(11)
-    least_p, most_q = 3334 if method == 2 else 1, {4: 10000, 5: 9999}.get(method, 0)
-    if not least_p <= p <= 9999 or not (1 if most_q else 0) <= q <= most_q:
+    least_p, most_q = 3334 if method == 2 else 1, {4: 10000, 5: 9999, 7: 10000}.get(method, 0)
+    most_s = 9999 if method == 7 else 0
+    if not least_p <= p <= 9999 or not (1 if most_q else 0) <= q <= most_q or not -most_s <= s <= most_s:
         return Refusal(12)
     return None
 
@@ -131,7 +136,7 @@ def bad_passes(method, passes):
     return None if 1 <= passes <= (3 if method == 1 else 1) else Refusal(13)
 
 
-# "Block-minima line"
+# "Block-minima line": 4.1 to 4.4
 def turning_days(block_days, factor, flows):
     lowest = []
     for start in range(0, len(flows) - block_days + 1, block_days):
@@ -139,7 +144,7 @@ def turning_days(block_days, factor, flows):
         lowest.append(start + block.index(min(block)))
     return [
         j for i, j, k in zip(lowest, lowest[1:], lowest[2:])
-        if factor * flows[j] < 10000 * flows[i] and factor * flows[j] < 10000 * flows[k]
+        if flows[j] == 0 or factor * flows[j] < 10000 * min(flows[i], flows[k])
     ]
 
 
@@ -162,7 +167,7 @@ def no_line(block_days, factor, days):
     return Refusal(17) if few else None
 
 
-# "Totals and index"
+# "Totals and index": 5.1, 5.2
 def totals(days, base):
     """m, Y, T, quick total and index of days and base values that pass their checks."""
     counted = [(y, b) for y, b in zip(days, base) if b is not None]
@@ -170,7 +175,7 @@ def totals(days, base):
     return Refusal(21) if Y == 0 else (len(counted), Y, T, 1000 * Y - T, near(10 * T, Y))
 
 
-# "Recession ratios"
+# "Recession ratios": 6.1 to 6.6
 def counted_limbs(limb_days, days):
     """The first place and the flows of each limb that counts."""
     counted = []

@@ -21,13 +21,14 @@ from rules import LAST_FIRST_DAY, MOST_DAYS, MOST_FLOW, Refusal, near, over_stre
 ROOT = os.path.join(os.path.dirname(os.path.abspath(__file__)), "..")
 PROGRAM = os.path.join(ROOT, "target/bin/separate")
 MOST_BYTES, SPACE = 32768, 2048
-STACK = 128 * 1024  # bytes, with what the system puts there before the program begins
+STACK = 128 * 1024  # bytes of the program's own
+SYSTEM = 16 * 1024  # what the system puts above them: up to 8 KiB at random, the program's name, a page begun
 SAMPLE = bytes.fromhex("01000000000264000000 02C800000003 0232000000 0904000000")
 SAMPLE_FILE = os.path.join(ROOT, "samples/sample.record")
 SAMPLE_TEXT = b"day flow base\n0 100 50.000\n1 200 57.500\n2 missing\n3 50 25.000\nindex 0.3786\n"
 
 
-# document 01, "The program `separate`"
+# document 01, "Rivers worked through": rules 8.2 to 8.6
 def text(record):
     if len(record) > MOST_BYTES:
         return "too long\n"
@@ -35,7 +36,7 @@ def text(record):
     if isinstance(answer, Refusal):
         return f"refused {answer}\n"
     first_day, days = answer
-    base = over_stretches(lambda flows: passes_over(near, 1, 9250, 0, 1, flows), days)
+    base = over_stretches(lambda flows: passes_over(near, 1, 9250, 0, 0, 1, flows), days)
     lines = ["day flow base"]
     for day, (flow, value) in enumerate(zip(days, base), first_day):
         lines.append(f"{day} missing" if flow is None else f"{day} {flow} {value // 1000}.{value % 1000:03}")
@@ -129,7 +130,8 @@ def run(program, record, *words, **how):
 def otherwise(program):
     yield "words behind its name", run(program, SAMPLE, "--help", "record") == (0, SAMPLE_TEXT, b"")
     longest = record_of(LAST_FIRST_DAY, [MOST_FLOW] * SPACE)
-    small = run(program, longest, env={}, preexec_fn=lambda: resource.setrlimit(resource.RLIMIT_STACK, (STACK, STACK)))
+    limit = STACK + SYSTEM
+    small = run(program, longest, env={}, preexec_fn=lambda: resource.setrlimit(resource.RLIMIT_STACK, (limit, limit)))
     yield f"a stack of {STACK} bytes", small == (0, text(longest).encode(), b"")
 
 

@@ -1,17 +1,21 @@
 -- THE THEOREM: document 01's demand 3, from the bytes to the index.
 -- Assumes nothing.
 use Prim.Native.Nat.{ℕ}
-use mathlib.Core.Path.{_≡_}
+use mathlib.Core.Path.{_≡_, _∙_, ap}
 use mathlib.Core.Bool.{false}
 use mathlib.Core.List.{List, map}
 use mathlib.Core.Option.{none}
+use lib.ListN.{length, take, length-map}
+use lib.Seq.{take-at}
 use Rattle.numbers.specs.Lists.{Each}
 use Rattle.numbers.proofs.Quantities.{Reads, reads-half}
-use Rattle.series.specs.Units.{dayOf}
-use Rattle.series.specs.Causes.{firstCause, accepted}
+use Rattle.series.specs.Units.{dayOf, baseMark}
+use Rattle.series.specs.Causes.{firstCause, accepted, mapOutcome}
 use Rattle.series.specs.Lists.{tooLong, anyInvalidDay}
 use Rattle.series.specs.Agreement.{Agree}
-use Rattle.record.specs.Call.{Stated, reading}
+use Rattle.series.proofs.Agreeing.{agreed-length}
+use Rattle.series.proofs.Refusing.{outcome-accepted, leaves-accepted}
+use Rattle.record.proofs.Accepting.{stated-first}
 use Rattle.filter.specs.declared.Setting.{Setting}
 use Rattle.filter.specs.Call.{filterCauses}
 use Rattle.filter.proofs.Calls.{filter-accepted, one-pass}
@@ -24,8 +28,9 @@ use Rattle.minima.proofs.Distance.{line-distance}
 use Rattle.totals.proofs.Distance.{totals-within}
 use Rattle.accuracy.specs.declared.Choice.{Choice}
 use Rattle.accuracy.specs.declared.Choice.the-variants.{Filter, Line}
-use Rattle.accuracy.specs.Choosing.{chosenCauses, chosenLimit}
-use Rattle.accuracy.specs.Claim.{roundedBase, exactBase, ChosenSteps, Claim}
+use Rattle.accuracy.specs.Choosing.{chosenCauses, chosenLimit, roundedBase, exactBase, baseList}
+use Rattle.accuracy.specs.Call.{front, behind, baseFlowOver, baseFlowLeaves, separated, afterReading, run}
+use Rattle.accuracy.specs.Claim.{ChosenSteps, Claim, Demand3}
 use Rattle.accuracy.proofs.TotalsOfRuns.{refuses, accepts}
 
 -- what the theorem needs of a choice whose call accepts the days
@@ -69,7 +74,22 @@ line-claimed s days base e =
     let a = line-accepted s days base e in
     record { few = a .few; valid = a .valid; agreement = line-distance (blocksOf s) (map dayOf days); upper = 1; lower = 2; limit = reads-half; steps = tt }
 
--- where reading accepts, and the filter or the line over the days that were read accepts
-pub demand-3 : (bytes : List ℕ) (room : ℕ) (choice : Choice) (base : List ℕ) {stated : Stated} → reading room bytes ≡ accepted stated → firstCause (chosenCauses choice (stated .days) base) ≡ none → Claim choice (stated .days)
-demand-3 bytes room (Line s) base {stated} e h = claimed (line-claimed s (stated .days) base h)
-demand-3 bytes room (Filter s n) base {stated} e h = claimed (filter-claimed s n (stated .days) base h)
+-- a choice whose call accepts the days
+claim-of : (choice : Choice) (days base : List ℕ) → firstCause (chosenCauses choice days base) ≡ none → Claim choice days
+claim-of (Line s) days base h = claimed (line-claimed s days base h)
+claim-of (Filter s n) days base h = claimed (filter-claimed s n days base h)
+
+-- of every run
+pub demand-3 : (bytes : List ℕ) (choice : Choice) (days base : List ℕ) → Demand3 (length days) bytes choice base (run bytes choice days base)
+unfolding baseFlowOver baseFlowLeaves
+demand-3 bytes choice days base stated e h =
+    let ds = stated .days in
+    let causes = chosenCauses choice ds (front ds base) in
+    let claim = claim-of choice ds (front ds base) h in
+    let full : length (baseList choice ds) ≡ length ds = length-map (roundedBase choice ds) baseMark ∙ agreed-length (claim .each-day) ∙ length-map ds dayOf in
+    record {
+      days = ap (λ o. take (length ds) (afterReading o choice days base .days)) e ∙ stated-first days stated;
+      base = ap (λ o. take (length ds) (afterReading o choice days base .base)) e ∙ ap (take (length ds)) (leaves-accepted causes _ base h) ∙ take-at (baseList choice ds) (behind ds base) (length ds) full;
+      claim = claim;
+      answer = ap (mapOutcome (separated choice base)) e ∙ ap (λ b. accepted (record { firstDay = stated .firstDay; dayCount = length ds; baseFlow = b })) (outcome-accepted causes _ h);
+    }

@@ -11,7 +11,7 @@ use lib.IntN.{pos, _*ℤ_}
 use lib.Signed.{leZ}
 use lib.Dec.{T}
 use Rattle.numbers.specs.Near.{near}
-use Rattle.numbers.specs.Fraction.{Fraction, whole, half, sum, multiple, quotient, least}
+use Rattle.numbers.specs.Fraction.{Fraction, whole, half, sum, opposite, difference, surplus, multiple, quotient, least}
 use Rattle.numbers.specs.Arithmetic.{rounded, exact, weighted, Close}
 use Rattle.series.specs.Segments.{overSegments}
 use Rattle.numbers.specs.Scan.{recursive}
@@ -58,25 +58,25 @@ breaks-day e (then (values h c) d) = ⊎-elim (λ p. breaks p c) (λ p. breaks-d
 
 -- flow 1 on ten days, by method 6 with p 5000: d 10000, A 5000
 abbrev steady : Setting
-steady = record { method = 6; p = 5000; q = 0 }
+steady = record { method = 6; p = 5000; q = 0; s = pos 0 }
 
 abbrev ones : List (Option ℕ)
 ones = some 1 ∷ some 1 ∷ some 1 ∷ some 1 ∷ some 1 ∷ some 1 ∷ some 1 ∷ some 1 ∷ some 1 ∷ some 1 ∷ []
 
 -- the 2 of P is no 3: day 10 has 1000, and exactly 999.0234..
 the-2 : Each (Agree (quotient (whole (1 * 10000)) (3 * (10000 - 5000)))) ones (filtered rounded steady 1 ones) (filtered exact steady 1 ones) → ⊥
-unfolding whole half sum multiple quotient least limitOf filtered overSegments methodOf weights start step recursive thousandths weighted near filterLimit dayOutside outside
+unfolding whole half sum opposite difference surplus multiple quotient least limitOf filtered overSegments methodOf weights start step recursive thousandths weighted near filterLimit dayOutside outside
 the-2 = breaks-day refl
 
 -- the n of P: three passes of method 1 with p 100 over flows 0, 6, 9, 9, 7 lie further apart than one pass may
 abbrev quick : Setting
-quick = record { method = 1; p = 100; q = 0 }
+quick = record { method = 1; p = 100; q = 0; s = pos 0 }
 
 abbrev five : List (Option ℕ)
 five = some 0 ∷ some 6 ∷ some 9 ∷ some 9 ∷ some 7 ∷ []
 
 the-n : Each (Agree (filterLimit quick 1)) five (filtered rounded quick 3 five) (filtered exact quick 3 five) → ⊥
-unfolding whole half sum multiple quotient least limitOf filtered overSegments methodOf weights start step recursive thousandths weighted near filterLimit dayOutside outside
+unfolding whole half sum opposite difference surplus multiple quotient least limitOf filtered overSegments methodOf weights start step recursive thousandths weighted near filterLimit dayOutside outside
 the-n = breaks-day refl
 
 -- the days with a base value of a river, in either run
@@ -88,21 +88,21 @@ exactDays s days = baseDays days (filtered exact s 1 days)
 
 -- the m of the totals: over the ten days of flow 1 the total is 9006, and exactly 9000.977..; P is 1
 the-m : Close (filterLimit steady 1) (baseTotal rounded (roundedDays steady ones)) (baseTotal exact (exactDays steady ones)) → ⊥
-unfolding whole half sum multiple quotient least limitOf filtered overSegments methodOf weights start step recursive thousandths weighted near filterLimit outside baseDays flowTotal baseTotal index
+unfolding whole half sum opposite difference surplus multiple quotient least limitOf filtered overSegments methodOf weights start step recursive thousandths weighted near filterLimit outside baseDays flowTotal baseTotal index
 the-m = breaks refl
 
 -- the 10 of the index: there m and Y are 10, so that m × P / Y is 1; the index is 9006, and exactly 9000.977..
 the-10 : Close (sum (quotient (multiple 10 (filterLimit steady 1)) 10) half) (index rounded (roundedDays steady ones)) (index exact (exactDays steady ones)) → ⊥
-unfolding whole half sum multiple quotient least limitOf filtered overSegments methodOf weights start step recursive thousandths weighted near filterLimit outside baseDays flowTotal baseTotal index
+unfolding whole half sum opposite difference surplus multiple quotient least limitOf filtered overSegments methodOf weights start step recursive thousandths weighted near filterLimit outside baseDays flowTotal baseTotal index
 the-10 = breaks refl
 
 -- the 1/2 of the index: of flows 1000000 and 2000003 by method 1 with p 9250 it is 3583, and exactly 3583.33..
 abbrev usual : Setting
-usual = record { method = 1; p = 9250; q = 0 }
+usual = record { method = 1; p = 9250; q = 0; s = pos 0 }
 
 abbrev flood : List (Option ℕ)
 flood = some 1000000 ∷ some 2000003 ∷ []
 
 the-half : Close (quotient (multiple 10 (multiple 2 (filterLimit usual 1))) 3000003) (index rounded (roundedDays usual flood)) (index exact (exactDays usual flood)) → ⊥
-unfolding whole half sum multiple quotient least limitOf filtered overSegments methodOf weights start step recursive thousandths weighted near filterLimit outside baseDays flowTotal baseTotal index
+unfolding whole half sum opposite difference surplus multiple quotient least limitOf filtered overSegments methodOf weights start step recursive thousandths weighted near filterLimit outside baseDays flowTotal baseTotal index
 the-half = breaks refl

@@ -1,3 +1,3 @@
-pub mod Claim
 pub mod Choosing
 pub mod Call
+pub mod Claim

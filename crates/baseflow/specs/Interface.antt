@@ -3,6 +3,7 @@ use Prim.Native.Nat.{ℕ}
 use mathlib.Core.Bool.{cond}
 use mathlib.Core.Option.{Option}
 use lib.Dec.{eqb}
+use lib.IntN.{ℤ}
 use Rattle.series.specs.Units.{baseMark}
 use Rattle.series.specs.Causes.{Outcome, byCause, byOutcome}
 use Rattle.filter.specs.declared.Setting.{Setting}
@@ -27,8 +28,8 @@ abbrev pub handedOut : {A : Type 0} → (A → ℕ) → Outcome A → ℕ → �
 handedOut value o entry = byOutcome o (λ _. entry) value
 
 -- settings
-abbrev pub settingOf : (method p q : ℕ) → Setting
-settingOf method p q = record { method = method; p = p; q = q }
+abbrev pub settingOf : (method p q : ℕ) → (s : ℤ) → Setting
+settingOf method p q s = record { method = method; p = p; q = q; s = s }
 
 abbrev pub lineSettingOf : (blockDays factor : ℕ) → LineSetting
 lineSettingOf blockDays factor = record { «block_days» = blockDays; factor = factor }

@@ -59,14 +59,15 @@ pub extern "C" fn baseflow_filter(
     method: u32,
     p: u32,
     q: u32,
+    s: i32,
     passes: u32,
     days: &[u32],
     base: &mut [u64],
 ) -> u32
-    ensures { λ r. ⌜ r ≡ returnedCause (firstCause (filterCauses (settingOf method p q) passes (now (days .entry)) (now (base .entry)))) ⌝ }
-    ensures { λ _. ⌜ now (base .exit) ≡ filterLeaves (settingOf method p q) passes (now (days .entry)) (now (base .entry)) ⌝ }
+    ensures { λ r. ⌜ r ≡ returnedCause (firstCause (filterCauses (settingOf method p q s) passes (now (days .entry)) (now (base .entry)))) ⌝ }
+    ensures { λ _. ⌜ now (base .exit) ≡ filterLeaves (settingOf method p q s) passes (now (days .entry)) (now (base .entry)) ⌝ }
 {
-    let setting = Setting { method, p, q };
+    let setting = Setting { method, p, q, s };
     number(filter::filter(setting, passes, days, base))
 }
 
@@ -177,20 +178,21 @@ pub extern "C" fn baseflow_step(
     method: u32,
     p: u32,
     q: u32,
+    s: i32,
     day: u32,
     has_yesterday: &mut u32,
     flow: &mut u32,
     base: &mut u64,
     value: &mut u64,
 ) -> u32
-    ensures { λ r. ⌜ r ≡ returned (stepRule (settingOf method p q) (stateOf (now («has_yesterday» .entry)) (now (flow .entry)) (now (base .entry))) day .outcome) ⌝ }
-    ensures { λ _. ⌜ now («has_yesterday» .exit) ≡ stateOut (λ n. n .has) (stepRule (settingOf method p q) (stateOf (now («has_yesterday» .entry)) (now (flow .entry)) (now (base .entry))) day) (now («has_yesterday» .entry)) ⌝ }
-    ensures { λ _. ⌜ now (flow .exit) ≡ stateOut (λ n. n .flow) (stepRule (settingOf method p q) (stateOf (now («has_yesterday» .entry)) (now (flow .entry)) (now (base .entry))) day) (now (flow .entry)) ⌝ }
-    ensures { λ _. ⌜ now (base .exit) ≡ stateOut (λ n. n .base) (stepRule (settingOf method p q) (stateOf (now («has_yesterday» .entry)) (now (flow .entry)) (now (base .entry))) day) (now (base .entry)) ⌝ }
-    ensures { λ _. ⌜ now (value .exit) ≡ valueOut (stepRule (settingOf method p q) (stateOf (now («has_yesterday» .entry)) (now (flow .entry)) (now (base .entry))) day) (now (value .entry)) ⌝ }
+    ensures { λ r. ⌜ r ≡ returned (stepRule (settingOf method p q s) (stateOf (now («has_yesterday» .entry)) (now (flow .entry)) (now (base .entry))) day .outcome) ⌝ }
+    ensures { λ _. ⌜ now («has_yesterday» .exit) ≡ stateOut (λ n. n .has) (stepRule (settingOf method p q s) (stateOf (now («has_yesterday» .entry)) (now (flow .entry)) (now (base .entry))) day) (now («has_yesterday» .entry)) ⌝ }
+    ensures { λ _. ⌜ now (flow .exit) ≡ stateOut (λ n. n .flow) (stepRule (settingOf method p q s) (stateOf (now («has_yesterday» .entry)) (now (flow .entry)) (now (base .entry))) day) (now (flow .entry)) ⌝ }
+    ensures { λ _. ⌜ now (base .exit) ≡ stateOut (λ n. n .base) (stepRule (settingOf method p q s) (stateOf (now («has_yesterday» .entry)) (now (flow .entry)) (now (base .entry))) day) (now (base .entry)) ⌝ }
+    ensures { λ _. ⌜ now (value .exit) ≡ valueOut (stepRule (settingOf method p q s) (stateOf (now («has_yesterday» .entry)) (now (flow .entry)) (now (base .entry))) day) (now (value .entry)) ⌝ }
 {
     let state = state_of(*has_yesterday, *flow, *base);
-    let setting = Setting { method, p, q };
+    let setting = Setting { method, p, q, s };
     let step = state.step(setting, day);
     match step {
         Step::Refused { refusal, state: _ } => refusal.number(),

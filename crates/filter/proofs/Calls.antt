@@ -2,27 +2,30 @@
 -- Assumes nothing.
 use Prim.Native.Nat.{ℕ, _≤_}
 use mathlib.Core.Path.{_≡_, refl}
-use mathlib.Core.Bool.{false}
+use mathlib.Core.Bool.{true, false}
 use mathlib.Core.List.{List}
 use mathlib.Core.Option.{none, some}
+use lib.IntN.{pos}
 use lib.ListN.{length}
 use borrow.Author.Tests.{eq-eqb}
 use Rattle.series.specs.Units.{isInvalidDay, dayOf}
-use Rattle.series.specs.Causes.{firstCause, accepted, refused}
+use Rattle.series.specs.Causes.{firstCause, accepted, refused, Decides}
+use Rattle.series.specs.declared.Verdict.{Verdict}
 use Rattle.series.specs.Lists.{tooLong, anyInvalidDay}
 use Rattle.series.proofs.Views.{lies-within}
 use Rattle.series.proofs.Tests.{same-length, not-different}
 use Rattle.series.proofs.Refusing.{passed, outcome-refused, outcome-accepted, leaves-refused, leaves-accepted}
 use Rattle.filter.specs.declared.Setting.{Setting}
 use Rattle.filter.specs.declared.DailyFilter.{DailyFilter}
-use Rattle.filter.specs.Methods.{methodOf, unknownMethod, outOfRange, inRange, invalidPasses, Usable}
+use Rattle.filter.specs.Methods.{methodOf, unknownMethod, outOfRange, spans, inRange, invalidPasses, Usable}
 use Rattle.filter.specs.Daily.{invalidYesterday, baseOn, stateAfter}
+use Rattle.filter.specs.Private.{stateCauses}
 use Rattle.filter.specs.Call.{filterCauses, filteredList, filterLeaves, stepCauses, stepRule}
 
 -- method 1 by its range
-pub method-1-usable : (s : Setting) → s .method ≡ 1 → 1 ≤ s .p → s .p ≤ 9999 → s .q ≡ 0 → Usable s
-unfolding unknownMethod outOfRange inRange methodOf
-method-1-usable s m low high q = record { known = rw m; in-range = rw (m, lies-within 1 9999 (s .p) low high, eq-eqb (s .q) 0 q) }
+pub method-1-usable : (s : Setting) → s .method ≡ 1 → 1 ≤ s .p → s .p ≤ 9999 → s .q ≡ 0 → s .s ≡ pos 0 → Usable s
+unfolding unknownMethod outOfRange inRange methodOf spans
+method-1-usable s m low high q z = record { known = rw m; in-range = rw (m, lies-within 1 9999 (s .p) low high, eq-eqb (s .q) 0 q, z) }
 
 -- one pass is valid in every method
 pub one-pass : (s : Setting) → invalidPasses s 1 ≡ false
@@ -75,6 +78,19 @@ module _ (s : Setting) (st : DailyFilter) (day : ℕ) where
   step-accepted e =
       let p = passed (stepCauses s st day) e in
       record { usable = record { known = p 11; in-range = p 12 }; valid-state = p 15; valid-day = p 10 }
+
+  -- a setting refuses at once; behind one that can be used, the state and the day decide
+  pub unknown-first : unknownMethod s ≡ true → firstCause (stepCauses s st day) ≡ some 11
+  unfolding stepCauses
+  unknown-first e = rw e
+
+  pub range-first : unknownMethod s ≡ false → outOfRange s ≡ true → firstCause (stepCauses s st day) ≡ some 12
+  unfolding stepCauses
+  range-first e h = rw (e, h)
+
+  pub decides-step : Usable s → {v : Verdict} → Decides (stateCauses st day) v → Decides (stepCauses s st day) v
+  unfolding stepCauses stateCauses
+  decides-step u d = record { first = rw (u .known, u .in-range) (d .first) }
 
   -- what it hands out
   pub hands-back : {k : ℕ} → firstCause (stepCauses s st day) ≡ some k → stepRule s st day ≡ record { outcome = refused k; state = st }

@@ -7,17 +7,17 @@ use mathlib.Core.List.{List, [], _∷_, map, reverse-reverse}
 use mathlib.Core.Option.{Option, none, some}
 use native.Mathlib.Nat.{mul-le-mul-left, min-le-left, le-trans}
 use native.Mathlib.Omega.{arith}
-use Rattle.numbers.specs.Fraction.{Fraction, half, sum, AtMost}
-use Rattle.numbers.specs.Arithmetic.{Close, Weights, weighted, rounded, exact}
+use Rattle.numbers.specs.Fraction.{Fraction, AtMost}
+use Rattle.numbers.specs.Arithmetic.{Close, Weights, rounded, exact}
 use Rattle.numbers.specs.Lists.{Each, done, then}
-use Rattle.numbers.proofs.Fractions.{close-least, close-weaken, close-weighted}
-use Rattle.numbers.proofs.Quantities.{Reads, reads-whole, reads-half, reads-sum, reads-quotient, reads-weighted, at-most, close-exact, close-near}
+use Rattle.numbers.proofs.Fractions.{close-least, close-weaken, stepError, close-weighted}
+use Rattle.numbers.proofs.Quantities.{Reads, reads-whole, reads-half, reads-quotient, reads-error, at-most, close-exact, close-near}
 use Rattle.numbers.proofs.Pairwise.{each-reverse}
 use Rattle.numbers.proofs.Recursion.{together}
 use Rattle.series.specs.Agreement.{Agree, no-value, values}
 use Rattle.series.proofs.Gaps.{over-each}
 use Rattle.filter.specs.declared.Setting.{Setting}
-use Rattle.filter.specs.Methods.{Method, lyne-hollick, chapman-1991, chapman-maxwell, boughton, eckhardt, tularam-ilahee, methodOf, weights, methodStart, start, invalidPasses, Usable}
+use Rattle.filter.specs.Methods.{Method, lyne-hollick, chapman-1991, chapman-maxwell, boughton, eckhardt, tularam-ilahee, jakeman-hornberger, methodOf, weights, methodStart, start, invalidPasses, Usable}
 use Rattle.filter.specs.Passes.{step, thousandths, laterDay, firstPass, forwardPass, backwardPass, passes, filtered}
 use Rattle.filter.specs.Distance.{limitOf, filterLimit}
 use Rattle.filter.proofs.Table.{row, start-below, passes-range, Mean, passes-mean}
@@ -45,10 +45,10 @@ module _ (w : Weights) (below : w .A < w .d) where
 
   -- a step from errors within the limits of two passes stays within the later one's
   module _ (k : ℕ) (mean : Mean w k) where
-    limit-holds : AtMost (sum (weighted exact w (limitOf w (suc k)) (limitOf w k) (limitOf w k)) half) (limitOf w (suc k))
+    limit-holds : AtMost (stepError w (limitOf w (suc k)) (limitOf w k) (limitOf w k)) (limitOf w (suc k))
     limit-holds =
-        at-most (reads-sum (reads-weighted w (omega arith) (reads-limit (suc k)) (reads-limit k) (reads-limit k)) reads-half) (reads-limit (suc k))
-        (cross-multiplied (w .A) (w .B) (w .C) (w .d) e k (suc k) (fixed-point (w .A) (w .B) (w .C) (w .d) e k (omega arith) mean))
+        at-most (reads-error w (omega arith) (reads-limit (suc k)) (reads-limit k) (reads-limit k)) (reads-limit (suc k))
+        (cross-multiplied (w .A) (w .B) (w .C + w .E) (w .d) e k (suc k) (fixed-point (w .A) (w .B) (w .C + w .E) (w .d) e k (omega arith) mean))
 
     close-step : {f u v : ℕ} {f̂ û v̂ : Fraction} → Close (limitOf w (suc k)) f f̂ → Close (limitOf w k) u û → Close (limitOf w k) v v̂
         → Close (limitOf w (suc k)) (step rounded w f u v) (step exact w f̂ û v̂)
@@ -134,6 +134,7 @@ module _ {s : Setting} (u : Usable s) where
   method-start-close boughton y = close-exact (500 * y) (reads-filter-limit 1)
   method-start-close eckhardt y = close-weaken (at-most reads-half (reads-filter-limit 1) (omega (arith, row u .below))) (close-near (9 * s .q * y) 100)
   method-start-close tularam-ilahee y = close-exact (500 * y) (reads-filter-limit 1)
+  method-start-close jakeman-hornberger y = close-exact (500 * y) (reads-filter-limit 1)
 
   start-close : (y : ℕ) → Close (filterLimit s 1) (start rounded s y) (start exact s y)
   unfolding start

@@ -1,10 +1,11 @@
 -- Computed examples: three passes that differ, a river with gaps for each method, and the refusals at the edges of the
--- ranges. (Document 01's own rivers stand in one list, in accuracy's proofs/Rivers.antt.)
+-- ranges. (Document 01's own rivers stand in one list, in worked's proofs/Rivers.antt.)
 -- Assumes nothing.
 use Prim.Native.Nat.{ℕ}
 use mathlib.Core.Path.{_≡_, refl}
 use mathlib.Core.List.{List, [], _∷_}
 use mathlib.Core.Option.{Option, none, some}
+use lib.IntN.{pos}
 use Rattle.numbers.specs.Near.{near}
 use Rattle.numbers.specs.Arithmetic.{rounded, weighted}
 use Rattle.numbers.specs.Scan.{recursive}
@@ -13,12 +14,12 @@ use Rattle.series.specs.Causes.{firstCause}
 use Rattle.series.specs.Lists.{tooLong, lengthsDiffer, anyInvalidDay}
 use Rattle.series.specs.Units.{isInvalidDay, within}
 use Rattle.filter.specs.declared.Setting.{Setting}
-use Rattle.filter.specs.Methods.{methodOf, weights, start, inRange, unknownMethod, outOfRange, invalidPasses}
+use Rattle.filter.specs.Methods.{methodOf, weights, start, spans, inRange, unknownMethod, outOfRange, invalidPasses}
 use Rattle.filter.specs.Passes.{step, thousandths, filtered}
 use Rattle.filter.specs.Call.{filterCauses}
 
 abbrev setting : (method p q : ℕ) → Setting
-setting m p q = record { method = m; p = p; q = q }
+setting m p q = record { method = m; p = p; q = q; s = pos 0 }
 
 -- the base flow of a river, in thousandths
 abbrev base : Setting → (passes : ℕ) → List (Option ℕ) → List (Option ℕ)
@@ -58,12 +59,10 @@ with-gaps :
 unfolding gaps filtered overSegments methodOf weights start step recursive thousandths weighted near
 with-gaps = refl
 
--- no method 7; method 2 from p 3334 on; method 4 up to q 10000; q 0 where the row has none; passes only in method 1;
+-- no method 8; method 4 up to q 10000; q 0 where the row has none; passes only in method 1;
 -- then lists of different length, and a day that is neither flow nor missing
 refusals :
-    firstCause (filterCauses (setting 7 9250 0) 1 [] [])
-    ∷ firstCause (filterCauses (setting 2 3333 0) 1 [] [])
-    ∷ firstCause (filterCauses (setting 2 3334 0) 1 [] [])
+    firstCause (filterCauses (setting 8 9250 0) 1 [] [])
     ∷ firstCause (filterCauses (setting 4 1 10000) 1 [] [])
     ∷ firstCause (filterCauses (setting 6 5000 1) 1 [] [])
     ∷ firstCause (filterCauses (setting 2 3334 0) 2 [] [])
@@ -71,6 +70,6 @@ refusals :
     ∷ firstCause (filterCauses (setting 1 9250 0) 3 (10000001 ∷ []) [])
     ∷ firstCause (filterCauses (setting 1 9250 0) 3 (10000001 ∷ []) (0 ∷ []))
     ∷ []
-    ≡ some 11 ∷ some 12 ∷ none ∷ none ∷ some 12 ∷ some 13 ∷ some 13 ∷ some 14 ∷ some 10 ∷ []
-unfolding filterCauses unknownMethod outOfRange methodOf inRange within invalidPasses tooLong lengthsDiffer anyInvalidDay isInvalidDay
+    ≡ some 11 ∷ none ∷ some 12 ∷ some 13 ∷ some 13 ∷ some 14 ∷ some 10 ∷ []
+unfolding filterCauses unknownMethod outOfRange methodOf inRange spans within invalidPasses tooLong lengthsDiffer anyInvalidDay isInvalidDay
 refusals = refl

@@ -32,31 +32,28 @@ small-set base i b h j l k =
 
 -- pass 1
 module _ (s : Setting) (days : List ℕ) where
-  pub record FirstPass (base₀ base : List ℕ) (st : DailyFilter) (i : ℕ) : Type 0 where
-    pub same-length : length base ≡ length base₀
+  pub record FirstPass (base : List ℕ) (st : DailyFilter) (i : ℕ) : Type 0 where
     pub so-far : take i base ++ scan (dayState s) (dayMark s) st (drop i days) ≡ firstRun s days
     pub valid : invalidYesterday (st .yesterday) ≡ false
     pub small : (j : ℕ) → j < i → SmallBase (getD base j 0)
 
-  pub first-start : (base : List ℕ) {st : DailyFilter} → st ≡ fresh → FirstPass base base st 0
+  pub first-start : (base : List ℕ) {st : DailyFilter} → st ≡ fresh → FirstPass base st 0
   unfolding firstRun invalidYesterday
   first-start base e =
-      record { same-length = refl; so-far = ap (λ x. scan (dayState s) (dayMark s) x days) e; valid = ap (λ x. invalidYesterday (x .yesterday)) e; small = λ j h. absurd (omega arith) }
+      record { so-far = ap (λ x. scan (dayState s) (dayMark s) x days) e; valid = ap (λ x. invalidYesterday (x .yesterday)) e; small = λ j h. absurd (omega arith) }
 
-  pub first-turn : {base₀ base : List ℕ} {st st′ : DailyFilter} {i b : ℕ} → length days ≡ length base₀ → i < length days → FirstPass base₀ base st i → Advance s st (getD days i 0) st′ b → FirstPass base₀ (set base i b) st′ (i + 1)
-  first-turn {base₀} {base} {st} {st′} {i} {b} e h f a =
-      let l : i < length base = omega (arith, f .same-length) in
+  pub first-turn : {base : List ℕ} {st st′ : DailyFilter} {i b : ℕ} → i < length days → i < length base → FirstPass base st i → Advance s st (getD days i 0) st′ b → FirstPass (set base i b) st′ (i + 1)
+  first-turn {base} {st} {i = i} {b} h l f a =
       record {
-        same-length = length-set base i b ∙ f .same-length;
         so-far = into-turn (dayState s) (dayMark s) days 0 base i st h l (a .0 .1) (a .0 .0) ∙ f .so-far;
         valid = a .1 .0;
         small = λ j k. small-set base i b (a .1 .1) j l (λ n. f .small j (omega arith));
       }
 
-  pub first-end : {base₀ base : List ℕ} {st : DailyFilter} {i : ℕ} → length days ≡ length base₀ → length days ≤ i → FirstPass base₀ base st i → (base ≡ firstRun s days) × SmallList base
-  first-end {base₀} {base} {st} {i} e h f = (
-    sym (into-end (dayState s) (dayMark s) days 0 base i st h (omega (arith, f .same-length))) ∙ f .so-far,
-    λ j. by-cases (decLe (length base) j) (λ k. subst SmallBase (sym (List·getD-eq-default base 0 k)) (inr (omega arith))) (λ k. f .small j (omega (arith, lt-of-not-le k, f .same-length))),
+  pub first-end : {base : List ℕ} {st : DailyFilter} {i : ℕ} → length days ≤ i → length base ≤ i → FirstPass base st i → (base ≡ firstRun s days) × SmallList base
+  first-end {base} {st} {i} h l f = (
+    sym (into-end (dayState s) (dayMark s) days 0 base i st h l) ∙ f .so-far,
+    λ j. by-cases (decLe (length base) j) (λ k. subst SmallBase (sym (List·getD-eq-default base 0 k)) (inr (omega arith))) (λ k. f .small j (omega (arith, lt-of-not-le k))),
   )
 
 -- passes 2 and 3

@@ -20,7 +20,7 @@ fresh = record { yesterday = Unknown }
 abbrev pub after : (y b : ℕ) → DailyFilter
 after y b = record { yesterday = Known y b }
 
--- 15: state's flow over its limit, or base over 1000 × flow; it never concerns the fresh state
+-- 15: yesterday's flow is above its limit, or yesterday's base above 1000 × that flow; the fresh state has no yesterday
 unfoldable pub invalidYesterday : Yesterday → Bool
 invalidYesterday Unknown = false
 invalidYesterday (Known y b) = ltb flowLimit y || ltb (1000 * y) b
@@ -30,7 +30,7 @@ unfoldable pub dayBase : Setting → Yesterday → ℕ → ℕ
 dayBase s Unknown y = start rounded s y
 dayBase s (Known x f) y = laterDay rounded s f y x
 
--- the base value of a day, and the state after it: a missing day yields no value and the fresh state
+-- the base value of a day, and the state after it: a missing day has no value, and then the state is fresh
 unfoldable pub baseOn : Setting → DailyFilter → Option ℕ → Option ℕ
 unfolding dayBase
 baseOn s st none = none

@@ -9,7 +9,7 @@ use Rattle.series.specs.Segments.{overSegments}
 use Rattle.filter.specs.declared.Setting.{Setting}
 use Rattle.filter.specs.Methods.{weights, start}
 
--- f(t) = the smaller of u(t) and near((A × f(t-1) + B × u(t) + C × u(t-1)) / d), with f = f(t-1), u = u(t), v = u(t-1)
+-- f(t) = min(u(t), near((A × f(t-1) + B × u(t) + C × u(t-1)) / d)), with f for f(t-1), u for u(t) and v for u(t-1)
 unfoldable pub step : (S : Arithmetic) → Weights → S .Number → S .Number → S .Number → S .Number
 step S w f u v = S .least u (weighted S w f u v)
 
@@ -30,12 +30,13 @@ module _ (S : Arithmetic) (s : Setting) where
   unfoldable pub forwardPass : List (S .Number) → List (S .Number)
   forwardPass = recursive (λ u. u) (step S (weights s))
 
-  -- in a backward pass t-1 means the following day
+  -- going backward, the following day stands where t-1 stands above
   unfoldable pub backwardPass : List (S .Number) → List (S .Number)
   unfolding forwardPass
   backwardPass us = reverse (forwardPass (reverse us))
 
-  -- a segment after n passes, of which 1, 2 and 3 are accepted: forward, backward, forward, each over the output before it
+  -- a segment after n passes, of which 1, 2 and 3 are accepted: the second goes backward, and each takes what the one before
+  -- it gave
   unfoldable pub passes : (first : ℕ → S .Number) → ℕ → List ℕ → List (S .Number)
   unfolding firstPass forwardPass backwardPass
   passes first zero flows = map (thousandths S) flows

@@ -3,31 +3,37 @@
 -- are the passes of specs/Passes.antt.
 use Prim.Native.Nat.{ℕ, _≤_, _<_}
 use mathlib.Core.Path.{_≡_}
-use mathlib.Core.List.{List, reverse}
+use mathlib.Core.List.{List, [], _∷_, reverse}
 use mathlib.Core.Logic.{_⊎_}
 use mathlib.Core.Option.{Option, none, some}
 use lib.ListN.{getD}
 use Rattle.numbers.specs.Arithmetic.{rounded, Weights}
 use Rattle.numbers.specs.Scan.{scan}
-use Rattle.series.specs.Units.{noValueMark, dayOf, baseOf, baseMark}
+use Rattle.series.specs.Units.{noValueMark, isInvalidDay, dayOf, baseOf, baseMark}
+use Rattle.series.specs.Causes.{Cause, cause}
 use Rattle.filter.specs.declared.Setting.{Setting}
 use Rattle.filter.specs.declared.DailyFilter.{DailyFilter}
 use Rattle.filter.specs.declared.method.Coefficients.{Coefficients}
 use Rattle.filter.specs.declared.pass.Previous.{Previous}
 use Rattle.filter.specs.declared.pass.Previous.the-variants.{Nothing, Day}
 use Rattle.filter.specs.Passes.{step}
-use Rattle.filter.specs.Daily.{fresh, baseOn, stateAfter}
+use Rattle.filter.specs.Daily.{fresh, invalidYesterday, baseOn, stateAfter}
+
+-- the causes of the step that lie in the state and the day
+unfoldable pub stateCauses : DailyFilter → ℕ → List Cause
+stateCauses st day = cause (invalidYesterday (st .yesterday)) 15 ∷ cause (isInvalidDay day) 10 ∷ []
 
 -- the weights that the code carries
 abbrev pub weightsOf : Coefficients → Weights
-weightsOf w = record { A = w .a; B = w .b; C = w .c; d = w .d }
+weightsOf w = record { A = w .a; B = w .b; C = w .c; E = w .e; d = w .d }
 
--- none above 10^8, and a d to divide by
+-- none above 10^8, a d of at most twice that, and one to divide by
 pub record Moderate (w : Weights) : Type 0 where
   pub a : w .A ≤ 100000000
   pub b : w .B ≤ 100000000
   pub c : w .C ≤ 100000000
-  pub d : w .d ≤ 100000000
+  pub e : w .E ≤ 100000000
+  pub d : w .d ≤ 200000000
   pub above : 0 < w .d
 
 -- at most the largest flow, in thousandths

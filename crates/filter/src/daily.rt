@@ -17,8 +17,8 @@ ghost use Rattle.series.specs.Units.{isInvalidDay};
 ghost use Rattle.series.specs.Causes.{Decides};
 ghost use Rattle.filter.specs.Methods.{weights, Usable};
 ghost use Rattle.filter.specs.Daily.{fresh, invalidYesterday, dayBase};
-ghost use Rattle.filter.specs.Call.{stepCauses, stepRule, outcomeOf};
-ghost use Rattle.filter.specs.Private.{weightsOf, Moderate, SmallBase, dayState, dayMark};
+ghost use Rattle.filter.specs.Call.{stepRule, outcomeOf};
+ghost use Rattle.filter.specs.Private.{weightsOf, Moderate, SmallBase, stateCauses, dayState, dayMark};
 
 // A day's base value, and the state after it.
 pub struct Advanced {
@@ -57,14 +57,26 @@ impl DailyFilter {
     pub fn step(self, setting: Setting, day: u32) -> Step
         ensures { λ r. ⌜ outcomeOf r ≡ stepRule setting self day ⌝ }
     {
-        let verdict = check_step(self, setting, day);
+        if unknown_method(setting) {
+            return Step::Refused {
+                refusal: Refusal::UnknownMethod,
+                state: self,
+            };
+        }
+        if out_of_range(setting) {
+            return Step::Refused {
+                refusal: Refusal::ParameterOutOfRange,
+                state: self,
+            };
+        }
+        let w = method::table_row(setting);
+        let verdict = check_state(self, day);
         if let Verdict::Refused(refusal) = verdict {
             return Step::Refused {
                 refusal,
                 state: self,
             };
         }
-        let w = method::table_row(setting);
         let next = advance(self, setting, w, day);
         let state = next.state;
         Step::Next {
@@ -74,14 +86,12 @@ impl DailyFilter {
     }
 }
 
-// The causes of refusal of the step, in their order.
-fn check_step(state: DailyFilter, setting: Setting, day: u32) -> Verdict
-    ensures { λ r. ⌜ Decides (stepCauses setting state day) r ⌝ }
+// The causes of refusal that lie in the state and the day, in their order.
+fn check_state(state: DailyFilter, day: u32) -> Verdict
+    ensures { λ r. ⌜ Decides (stateCauses state day) r ⌝ }
 {
     let yesterday = state.yesterday;
     let v = Verdict::Accepted;
-    let v = refuse_if(v, unknown_method(setting), Refusal::UnknownMethod);
-    let v = refuse_if(v, out_of_range(setting), Refusal::ParameterOutOfRange);
     let v = refuse_if(v, invalid_yesterday(yesterday), Refusal::InvalidState);
     refuse_if(v, series::is_invalid_day(day), Refusal::InvalidDay)
 }

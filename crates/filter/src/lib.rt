@@ -1,4 +1,4 @@
-// Base flow by six recursive filters (document 01, "Filters"): the filter call over a day list, with up to three
+// Base flow by seven recursive filters (document 01, "Filters"): the filter call over a day list, with up to three
 // passes, and the daily step.
 mod daily;
 mod method;
@@ -15,11 +15,12 @@ ghost use mathlib.Core.Path.{_≡_};
 ghost use Rattle.series.specs.Causes.{refusalOf, firstCause, Decides};
 ghost use Rattle.filter.specs.Call.{filterCauses, filterLeaves};
 
-// A filter's setting: the method's number and its two parameters in ten-thousandths, q 0 where the method has none.
+// A filter's setting: the method's number and its parameters in ten-thousandths; q and s are 0 where the method has none.
 pub struct Setting {
     pub method: u32,
     pub p: u32,
     pub q: u32,
+    pub s: i32,
 }
 
 // What the daily filter knows of the day before: its flow in litres a second and its base in thousandths, or nothing.
@@ -67,7 +68,8 @@ fn check(setting: Setting, passes: u32, days: &[u32], base: &[u64]) -> Verdict
     let v = refuse_if(v, unknown_method(setting), Refusal::UnknownMethod);
     let v = refuse_if(v, out_of_range(setting), Refusal::ParameterOutOfRange);
     let v = refuse_if(v, invalid_passes(setting, passes), Refusal::InvalidPasses);
-    let v = refuse_if(v, series::too_long(days), Refusal::DayListTooLong);
+    let too_long = DailyFilter::DAY_LIMIT < days.len();
+    let v = refuse_if(v, too_long, Refusal::DayListTooLong);
     let v = refuse_if(v, lengths_differ(days, base), Refusal::LengthsDiffer);
     refuse_if(v, series::any_invalid_day(days), Refusal::InvalidDay)
 }

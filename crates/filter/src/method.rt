@@ -1,28 +1,29 @@
-// The six methods: document 01's table of coefficients, ranges and starts.
+// The seven methods: document 01's table of coefficients, ranges and starts.
 use crate::Setting;
 ghost use mathlib.Core.Path.{_≡_};
 ghost use mathlib.Core.Bool.{_&&_};
 ghost use lib.Dec.{eqb};
-ghost use Prim.Native.Nat.{_≤_};
 ghost use Rattle.series.specs.Units.{within};
+ghost use Prim.Native.Nat.{_≤_};
 ghost use Rattle.numbers.specs.Arithmetic.{rounded};
-ghost use Rattle.filter.specs.Methods.{weights, start, unknownMethod, outOfRange, invalidPasses, Usable};
+ghost use Rattle.filter.specs.Methods.{methodOf, methodRange, methodSpan, spans, weights, start, unknownMethod, outOfRange, invalidPasses, Usable};
 ghost use Rattle.filter.specs.Passes.{step};
 ghost use Rattle.filter.specs.Private.{weightsOf, Moderate, Small};
 
-// The A, B, C and d of a setting.
+// The A, B, C and d of a setting. C is c - e, its part above zero and its part below zero.
 pub struct Coefficients {
     pub a: u64,
     pub b: u64,
     pub c: u64,
+    pub e: u64,
     pub d: u64,
 }
 
-// 11: the method is not 1 to 6.
+// 11: the method is not 1 to 7.
 pub(crate) fn unknown_method(setting: Setting) -> bool
     ensures { λ r. ⌜ r ≡ unknownMethod setting ⌝ }
 {
-    !series::within(1, 6, setting.method)
+    !series::within(1, 7, setting.method)
 }
 
 // The range of a method with one parameter: p from `low` on, and q 0.
@@ -45,22 +46,56 @@ fn two_parameters(high: u32, p: u32, q: u32) -> bool
     false
 }
 
-// 12: p or q lies outside its range.
-pub(crate) fn out_of_range(setting: Setting) -> bool
-    ensures { λ r. ⌜ r ≡ outOfRange setting ⌝ }
+// Whether p and q lie in the ranges of the method.
+fn in_range(setting: Setting) -> bool
+    ensures { λ r. ⌜ r ≡ methodRange (methodOf (setting .method)) setting ⌝ }
 {
     let method = setting.method;
     match method {
-        1 => !one_parameter(1, setting.p, setting.q),
-        2 => !one_parameter(3334, setting.p, setting.q),
-        3 => !one_parameter(1, setting.p, setting.q),
-        4 => !two_parameters(10_000, setting.p, setting.q),
-        5 => !two_parameters(9999, setting.p, setting.q),
-        _ => !one_parameter(1, setting.p, setting.q),
+        1 => one_parameter(1, setting.p, setting.q),
+        2 => one_parameter(3334, setting.p, setting.q),
+        3 => one_parameter(1, setting.p, setting.q),
+        4 => two_parameters(10_000, setting.p, setting.q),
+        5 => two_parameters(9999, setting.p, setting.q),
+        7 => two_parameters(10_000, setting.p, setting.q),
+        _ => one_parameter(1, setting.p, setting.q),
     }
 }
 
-// 13: the passes are not 1 to 3, or over 1 outside method 1.
+// Whether s lies from -9999 to 9999.
+fn in_span(s: i32) -> bool
+    ensures { λ r. ⌜ r ≡ spans 9999 s ⌝ }
+{
+    if s < -9999 {
+        return false;
+    }
+    s <= 9999
+}
+
+// Whether s lies in its range, and is 0 where the method has none.
+fn s_in_range(method: u32, s: i32) -> bool
+    ensures { λ r. ⌜ r ≡ spans (methodSpan (methodOf method)) s ⌝ }
+{
+    if s == 0 {
+        return true;
+    }
+    if method == 7 {
+        return in_span(s);
+    }
+    false
+}
+
+// 12: p, q or s lies outside its range.
+pub(crate) fn out_of_range(setting: Setting) -> bool
+    ensures { λ r. ⌜ r ≡ outOfRange setting ⌝ }
+{
+    if s_in_range(setting.method, setting.s) {
+        return !in_range(setting);
+    }
+    true
+}
+
+// 13: the passes are not 1 to 3, or 2 or 3 in another method than 1.
 pub(crate) fn invalid_passes(setting: Setting, passes: u32) -> bool
     ensures { λ r. ⌜ r ≡ invalidPasses setting passes ⌝ }
 {
@@ -87,36 +122,49 @@ pub(crate) fn table_row(setting: Setting) -> Coefficients
             a: 2 * p,
             b: 10_000 - p,
             c: 10_000 - p,
+            e: 0,
             d: 20_000,
         },
         2 => Coefficients {
             a: 3 * p - 10_000,
             b: 10_000 - p,
             c: 10_000 - p,
+            e: 0,
             d: 30_000 - p,
         },
         3 => Coefficients {
             a: p,
             b: 10_000 - p,
             c: 0,
+            e: 0,
             d: 20_000 - p,
         },
         4 => Coefficients {
             a: p,
             b: q,
             c: 0,
+            e: 0,
             d: 10_000 + q,
         },
         5 => Coefficients {
             a: p * (10_000 - q),
             b: (10_000 - p) * q,
             c: 0,
+            e: 0,
             d: 100_000_000 - p * q,
+        },
+        7 => Coefficients {
+            a: 10_000 * p,
+            b: 10_000 * q,
+            c: numbers::above_zero(setting.s) * q,
+            e: numbers::below_zero(setting.s) * q,
+            d: 10_000 * (10_000 + q),
         },
         _ => Coefficients {
             a: p,
             b: 10_000 - p,
             c: 0,
+            e: 0,
             d: 10_000,
         },
     }
@@ -141,6 +189,6 @@ pub(crate) fn smoothed(w: Coefficients, f: u64, u: u64, v: u64) -> u64
     requires { ⌜ (Small f × Small u × Small v) ⌝ }
     ensures { λ r. ⌜ r ≡ step rounded (weightsOf w) f u v ⌝ }
 {
-    let rounded = numbers::near_small(w.a * f + w.b * u + w.c * v, w.d);
+    let rounded = numbers::near_balance(w.a * f, w.b * u + w.c * v, w.e * v, w.d);
     if u < rounded { u } else { rounded }
 }

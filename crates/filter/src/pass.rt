@@ -51,12 +51,12 @@ fn first_pass(setting: Setting, w: Coefficients, days: &[u32], base: &mut [u64])
     ensures { λ _. ⌜ (now (base .exit) ≡ firstRun setting (now (days .entry))) × SmallList (now (base .exit)) ⌝ }
 {
     let mut state = DailyFilter::fresh();
-    let mut i = 0;
-    while i < days.len() {
-        let next = daily::advance(state, setting, w, days[i]);
-        base[i] = next.base;
+    let mut t = 0;
+    while t < days.len() {
+        let next = daily::advance(state, setting, w, days[t]);
+        base[t] = next.base;
         state = next.state;
-        i += 1;
+        t += 1;
     }
 }
 

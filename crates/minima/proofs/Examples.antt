@@ -1,5 +1,5 @@
--- Computed examples: document 01's line river and its turning points, rivers with gaps, ties, an incomplete block, long blocks
--- and large flows, and the order of refusals.
+-- Computed examples: rivers with gaps, ties, an incomplete block, long blocks and large flows, document 01's river in
+-- fractions, and the order of refusals. Document 01's own rows (◆) stand in the crate worked.
 -- Assumes nothing.
 use Prim.Native.Nat.{ℕ}
 use mathlib.Core.Path.{_≡_, refl}
@@ -29,7 +29,7 @@ from o N g = record { days = N; factor = g; origin = o }
 abbrev of : (N g : ℕ) → Blocks
 of = from 0
 
--- document 01's river: N 1, g 9000, base 8000, 8333, 8667, 9000 at positions 1 to 4
+-- document 01's river, of N 1 and g 9000
 river : List ℕ
 river = 10 ∷ 8 ∷ 10 ∷ 20 ∷ 9 ∷ 30 ∷ []
 
@@ -54,21 +54,19 @@ largest : List ℕ
 largest = replicate 5 10000000
 
 lines :
-    line rounded (of 1 9000) river
-    ∷ line rounded (of 1 9000) falling
+    line rounded (of 1 9000) falling
     ∷ line rounded (of 3 9000) tied
     ∷ line rounded (of 2 9000) incomplete
     ∷ line rounded (of 1 9000) largest
     ∷ map (λ t. getD (line rounded (of 30 9000) long) t none) (39 ∷ 40 ∷ 70 ∷ 95 ∷ 96 ∷ [])
     ∷ []
-    ≡ (none ∷ some 8000 ∷ some 8333 ∷ some 8667 ∷ some 9000 ∷ none ∷ [])
-    ∷ (none ∷ some 20000 ∷ some 15000 ∷ some 8000 ∷ some 5000 ∷ none ∷ [])
+    ≡ (none ∷ some 20000 ∷ some 15000 ∷ some 8000 ∷ some 5000 ∷ none ∷ [])
     ∷ (none ∷ none ∷ none ∷ none ∷ some 4000 ∷ some 3833 ∷ some 3667 ∷ some 3500 ∷ some 3333 ∷ some 3167 ∷ some 3000 ∷ none ∷ none ∷ none ∷ none ∷ [])
     ∷ (none ∷ none ∷ some 8000 ∷ some 8200 ∷ some 8400 ∷ some 8600 ∷ some 8800 ∷ some 9000 ∷ none ∷ none ∷ none ∷ none ∷ none ∷ [])
     ∷ (none ∷ some 10000000000 ∷ some 10000000000 ∷ some 10000000000 ∷ none ∷ [])
     ∷ (none ∷ some 30000 ∷ some 35455 ∷ some 40000 ∷ none ∷ [])
     ∷ []
-unfolding river falling tied incomplete largest long near blockStart blockCount block lowest earliest minimumFlow minimumDay turns middleTurns counting selected turningPoints neighbours straight between lineOn line
+unfolding falling tied incomplete largest long near blockStart blockCount block lowest earliest minimumFlow minimumDay turns middleTurns counting selected turningPoints neighbours straight between lineOn line
 lines = refl
 
 -- the turning points without and with one day more, which completes the last block, and those of long blocks; and with N 2
@@ -95,13 +93,6 @@ exact-line :
     ≡ none ∷ some (pos 8000, 1) ∷ some (pos 25000, 3) ∷ some (pos 26000, 3) ∷ some (pos 9000, 1) ∷ none ∷ []
 unfolding fraction river whole quotient least blockStart blockCount block lowest earliest minimumFlow minimumDay turns middleTurns counting selected turningPoints neighbours straight between lineOn line
 exact-line = refl
-
--- document 01: g 9000, middle 10 beside 9 doesn't turn, beside 10 it does
-turning :
-    turns 9000 9 10 20 ∷ turns 9000 20 10 9 ∷ turns 9000 10 10 20 ∷ turns 9000 20 10 10 ∷ []
-    ≡ false ∷ false ∷ true ∷ true ∷ []
-unfolding turns
-turning = refl
 
 -- two segments, the second behind a gap of two days: each has its own line
 two-segments :

@@ -130,7 +130,7 @@ module _ (B : Blocks) (flows : List ℕ) (k : ℕ) where
             let e : getD days (t - start) 0 ≡ minimumFlow B flows k = omega (arith, flow-at t h (omega arith)) in
             absurd (omega (arith, earliest-found (minimumFlow B flows k) days (t - start) (omega (arith, block-length)) e .0))
 
-    -- document 01: a block's minimum is its lowest flow, on the earliest such day
+    -- the minimum of a block: the lowest flow in it, on the first day that has it
     pub block-minimum : Minimum flows start (start + B .days) (minimumDay B flows k)
     unfolding minimumDay
     block-minimum =

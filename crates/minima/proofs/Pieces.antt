@@ -2,7 +2,7 @@
 -- Assumes nothing.
 use Prim.Native.Nat.{ℕ, _+_, _*_, _-_, _≤_, _<_, min}
 use mathlib.Core.Path.{_≡_, refl, sym, _∙_, ap, subst}
-use mathlib.Core.Bool.{Bool, true, false, cond, _&&_}
+use mathlib.Core.Bool.{Bool, true, false, true≢false, cond, _&&_}
 use mathlib.Core.List.{List, [], _∷_}
 use mathlib.Core.Option.{Option, none, some}
 use native.Mathlib.Nat.{lt-of-not-le, le-of-lt, min-eq-left, min-eq-right}
@@ -20,7 +20,7 @@ use Rattle.minima.specs.Blocks.{flowOn}
 use Rattle.minima.specs.TurningPoints.{turningPoints, neighbours}
 use Rattle.minima.specs.Line.{straight, between, lineOn}
 use Rattle.minima.specs.Call.{hasTwo}
-use Rattle.minima.specs.Private.{pointsFrom, Low, FirstTurning, Found, Span}
+use Rattle.minima.specs.Private.{pointsFrom, Low, FirstTurning, Found, FirstTwo, Span}
 use Rattle.minima.proofs.Minima.{minimum-inside}
 use Rattle.minima.proofs.Points.{Rising, all-points, days-rise, points-rise}
 
@@ -145,22 +145,27 @@ module _ (B : Blocks) (flows : List ℕ) where
     unfolding lineOn neighbours
     none-left e d k = ap (λ ps. by (i ∷ ps) d) (sym (v .next .nowhere e)) ∙ v .same d k
 
-  -- no turning point at all
-  pub none-at-all : pointsFrom B flows 0 ≡ [] → (d : ℕ) → none ≡ valueOf d
-  unfolding lineOn neighbours
-  none-at-all e d = ap (λ ps. by ps d) (sym e ∙ all-points B flows)
-
   -- whether a segment has two turning points
   abbrev two : List ℕ → Bool
   two points = leb 2 (length points)
 
-  pub not-one : (x : Turning) → Found B flows 0 x → x .block ≡ 0 → false ≡ hasTwo B flows
+  pub not-two : (x : Turning) → Found B flows 0 x → x .block ≡ 0 → FirstTwo B flows (record { first = x; second = x })
   unfolding hasTwo
-  not-one x f e = ap two (sym (f .nowhere e) ∙ all-points B flows)
+  not-two x f e = record { there = λ h. absurd (omega arith); two = le-ltb 0 (x .block) (omega arith) ∙ ap two (sym (f .nowhere e) ∙ all-points B flows) }
 
-  pub second-found : (x y : Turning) → Found B flows 0 x → (x .block ≡ 0 → ⊥) → Found B flows (x .block) y → ltb 0 (y .block) ≡ hasTwo B flows
+  -- without two, no day has a value
+  pub none-at-all : hasTwo B flows ≡ false → (d : ℕ) → none ≡ valueOf d
+  unfolding hasTwo lineOn neighbours
+  none-at-all e d = by-points (turningPoints B flows) e
+    where
+      by-points : (ps : List ℕ) → two ps ≡ false → none ≡ by ps d
+      by-points [] h = refl
+      by-points (i ∷ []) h = refl
+      by-points (i ∷ j ∷ ps) h = absurd (true≢false (sym (le-leb 2 (length (i ∷ j ∷ ps)) (omega arith)) ∙ h))
+
+  pub both-found : (x y : Turning) → Found B flows 0 x → (x .block ≡ 0 → ⊥) → Found B flows (x .block) y → FirstTwo B flows (record { first = x; second = y })
   unfolding hasTwo
-  second-found x y f h n = by-block (decLe 1 (y .block)) (all x f (omega arith))
+  both-found x y f h n = record { there = λ _. (f, omega arith, n); two = by-block (decLe 1 (y .block)) (all x f (omega arith)) }
     where
       by-block : Dec (1 ≤ y .block) → x .day ∷ pointsFrom B flows (x .block) ≡ turningPoints B flows → ltb 0 (y .block) ≡ two (turningPoints B flows)
       by-block (yes k) e = lt-ltb 0 (y .block) k ∙ sym (le-leb 2 (length (x .day ∷ y .day ∷ pointsFrom B flows (y .block))) (omega arith)) ∙ ap two (ap (λ ps. x .day ∷ ps) (sym (n .there k .points)) ∙ e)

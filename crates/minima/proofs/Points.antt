@@ -10,7 +10,7 @@ use native.Mathlib.Decide.{decLe}
 use native.Mathlib.Omega.{arith}
 use lib.ListN.{length}
 use lib.Dec.{ltb}
-use borrow.Author.Tests.{lt-ltb, le-ltb}
+use borrow.Author.Tests.{eq-eqb, ne-eqb, lt-ltb, le-ltb}
 use Rattle.numbers.specs.Lists.{selected}
 use Rattle.numbers.proofs.Selection.{selected-none, selected-pass, selected-fail}
 use Rattle.minima.specs.declared.block.Blocks.{Blocks}
@@ -25,15 +25,19 @@ abbrev pub Rising : ℕ → List ℕ → Type 0
 Rising a [] = Unit {0}
 Rising a (b ∷ bs) = (a < b) × Rising b bs
 
--- the test of a turning point, one side after the other
-module _ (g left middle right : ℕ) {m l : ℕ} (e : m ≡ g * middle) (f : l ≡ 10000 * left) where
+-- the test of a turning point: a dry block, then one side after the other
+pub dry-turns : (g left middle right : ℕ) → middle ≡ 0 → true ≡ turns g left middle right
+unfolding turns
+dry-turns g left middle right e = rw (eq-eqb middle 0 e)
+
+module _ (g left middle right : ℕ) {m l : ℕ} (wet : middle ≡ 0 → ⊥) (e : m ≡ g * middle) (f : l ≡ 10000 * left) where
   pub below-left : {r : ℕ} → r ≡ 10000 * right → m < l → ltb m r ≡ turns g left middle right
   unfolding turns
-  below-left k h = rw (← e, ← f, ← k) (simp (lt-ltb m l h))
+  below-left k h = rw (ne-eqb middle 0 wet, ← e, ← f, ← k) (simp (lt-ltb m l h))
 
   pub not-below-left : l ≤ m → false ≡ turns g left middle right
   unfolding turns
-  not-below-left h = rw (← e, ← f) (simp (le-ltb m l h))
+  not-below-left h = rw (ne-eqb middle 0 wet, ← e, ← f) (simp (le-ltb m l h))
 
 module _ (B : Blocks) (flows : List ℕ) where
   -- there are no more blocks than days behind the origin

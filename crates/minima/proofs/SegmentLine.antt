@@ -2,7 +2,8 @@
 -- Assumes nothing.
 use Prim.Native.Nat.{ℕ, zero, suc, _+_, _≤_, _<_}
 use mathlib.Core.Path.{_≡_, refl, sym, _∙_, ap, subst}
-use mathlib.Core.List.{List, [], map}
+use mathlib.Core.Bool.{false}
+use mathlib.Core.List.{List, map}
 use mathlib.Core.Option.{Option, some}
 use mathlib.Core.Logic.{by-cases}
 use native.Mathlib.Nat.{zero-add, lt-of-not-le}
@@ -11,13 +12,14 @@ use native.Mathlib.Omega.{arith}
 use lib.ListN.{length, getD, set, length-set, length-map, List·getD-map}
 use lib.Seq.{getD-set-same, getD-set-other, ext-getD}
 use Rattle.numbers.specs.Arithmetic.{Arithmetic, rounded}
-use Rattle.series.specs.Units.{baseMark}
+use Rattle.series.specs.Units.{noValueMark, baseMark}
 use Rattle.series.proofs.Views.{mark-none, mark-value}
 use Rattle.minima.specs.declared.block.Blocks.{Blocks}
 use Rattle.minima.specs.declared.block.Turning.{Turning}
 use Rattle.minima.specs.TurningPoints.{counting, turningPoints, neighbours}
 use Rattle.minima.specs.Line.{lineOn, line}
-use Rattle.minima.specs.Private.{pointsFrom, Found, Filled, FilledTo, Blank}
+use Rattle.minima.specs.Call.{hasTwo}
+use Rattle.minima.specs.Private.{Found, Filled, FilledTo, Blank}
 use Rattle.minima.proofs.Pieces.{valueOf, InHand, first-in-hand, before-first, next-in-hand, by-piece, none-left, none-at-all}
 
 -- numbers counted off
@@ -59,6 +61,15 @@ module _ (rule : ℕ → ℕ) (a : ℕ) where
     pub filled-to : {e : ℕ} → e ≤ b → Filled rule a e base₀ base
     filled-to h = record { same-length = f .same-length; filled = λ d k l. f .filled d k (omega arith); kept = f .kept }
 
+-- days that are marked to before t stay so, and those from t on are written by a rule
+pub further : {mark rule : ℕ → ℕ} {t e : ℕ} {base new : List ℕ} → ((d : ℕ) → d < t → getD base d 0 ≡ mark d) → Filled rule t e base new → ((d : ℕ) → t ≤ d → d < e → rule d ≡ mark d)
+    → (d : ℕ) → d < e → getD new d 0 ≡ mark d
+further {t = t} so-far f marks d k =
+    elim (decLe t d) [
+      | yes l ↦ f .filled d l k ∙ marks d l k
+      | no l ↦ f .kept d (lt-of-not-le l) ∙ so-far d (lt-of-not-le l)
+    ]
+
 module _ (B : Blocks) (flows : List ℕ) where
   -- the number of a day in the base list
   abbrev mark : ℕ → ℕ
@@ -78,36 +89,30 @@ module _ (B : Blocks) (flows : List ℕ) where
         in-hand = first-in-hand B flows x f h y n;
       }
 
+  -- the line's list
+  pub list-length : length (map baseMark (line rounded B flows)) ≡ length flows
+  list-length = length-map (line rounded B flows) baseMark ∙ line-length rounded B flows
+
+  marked : (d : ℕ) → d < length flows → getD (map baseMark (line rounded B flows)) d 0 ≡ mark d
+  marked d k = ap (getD (map baseMark (line rounded B flows)) d) (sym (mark-value 0)) ∙ List·getD-map baseMark (line rounded B flows) d (some 0) ∙ ap baseMark (line-at rounded B flows d (some 0) k)
+
   -- all days drawn
   all-days : {base : List ℕ} → length flows ≡ length base → ((d : ℕ) → d < length flows → getD base d 0 ≡ mark d) → base ≡ map baseMark (line rounded B flows)
-  all-days {base} l h =
-      let m : length (map baseMark (line rounded B flows)) ≡ length flows = length-map (line rounded B flows) baseMark ∙ line-length rounded B flows in
-      ext-getD 0 base (map baseMark (line rounded B flows)) (sym (m ∙ l)) (λ d k. h d (omega arith) ∙ sym (marked d (omega arith)))
-    where
-      marked : (d : ℕ) → d < length flows → getD (map baseMark (line rounded B flows)) d 0 ≡ mark d
-      marked d k = ap (getD (map baseMark (line rounded B flows)) d) (sym (mark-value 0)) ∙ List·getD-map baseMark (line rounded B flows) d (some 0) ∙ ap baseMark (line-at rounded B flows d (some 0) k)
+  all-days {base} l h = ext-getD 0 base (map baseMark (line rounded B flows)) (sym (list-length ∙ l)) (λ d k. h d (omega arith) ∙ sym (marked d (omega arith)))
 
   module _ {base new : List ℕ} {t i : ℕ} {x : Turning} (s : Drawn base t i x) where
-    -- days drawn to before t stay, those from t on are written by a rule
-    further : {rule : ℕ → ℕ} {e : ℕ} → Filled rule t e base new → ((d : ℕ) → t ≤ d → d < e → rule d ≡ mark d) → (d : ℕ) → d < e → getD new d 0 ≡ mark d
-    further {e = e} f rule-marks d k = by-day (decLe t d)
-      where
-        by-day : Dec (t ≤ d) → getD new d 0 ≡ mark d
-        by-day (yes l) = f .filled d l k ∙ rule-marks d l k
-        by-day (no l) = f .kept d (lt-of-not-le l) ∙ s .so-far d (lt-of-not-le l)
-
     pub draw-turn : (y : Turning) → 0 < x .block → FilledTo flows i (x .day) t base new → Found B flows (x .block) y → Drawn new (x .day + 1) (x .day) y
     draw-turn y h f n =
         record {
           same-length = omega (arith, f .same-length, s .same-length);
-          so-far = further f (λ d l k. sym (mark-value _) ∙ ap baseMark (by-piece B flows (s .in-hand) h d l (omega arith)));
+          so-far = further (s .so-far) f (λ d l k. sym (mark-value _) ∙ ap baseMark (by-piece B flows (s .in-hand) h d l (omega arith)));
           in-hand = next-in-hand B flows (s .in-hand) h y n;
         }
 
     pub draw-end : x .block ≡ 0 → Blank t (length flows) base new → new ≡ map baseMark (line rounded B flows)
     draw-end e f =
-        all-days (omega (arith, f .same-length, s .same-length)) (further f (λ d l k. sym mark-none ∙ ap baseMark (none-left B flows (s .in-hand) e d l)))
+        all-days (omega (arith, f .same-length, s .same-length)) (further (s .so-far) f (λ d l k. sym mark-none ∙ ap baseMark (none-left B flows (s .in-hand) e d l)))
 
-  pub draw-nothing : {base new : List ℕ} → length flows ≡ length base → pointsFrom B flows 0 ≡ [] → Blank 0 (length flows) base new → new ≡ map baseMark (line rounded B flows)
-  draw-nothing l e f =
-      all-days (omega (arith, f .same-length)) (λ d k. f .filled d (omega arith) k ∙ sym mark-none ∙ ap baseMark (none-at-all B flows e d))
+  -- without two turning points no day has a value
+  pub no-values : hasTwo B flows ≡ false → (d : ℕ) → d < length flows → getD (map baseMark (line rounded B flows)) d 0 ≡ noValueMark
+  no-values e d k = marked d k ∙ ap baseMark (sym (none-at-all B flows e d)) ∙ mark-none

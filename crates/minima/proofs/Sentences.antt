@@ -1,7 +1,7 @@
 -- Document 01's sentences on the block-minima line, proved of the definitions in specs/:
 --   blocks run from a segment's first day (`first-block`, `next-block`), and an incomplete one is dropped (`complete-blocks`);
---   a block's minimum is its lowest flow, on the earliest such day (`minimum-of-block`);
---   the middle minimum turns if g × middle < 10000 × each outer one (`turning-test`);
+--   the minimum of a block is the lowest flow in it, on the first day that has it (`minimum-of-block`);
+--   the middle minimum turns where it is 0, or where g times it is below 10000 times either neighbour (`turning-test`);
 --   the list of turning points holds each of them (`turning-points-listed`), in order (`turning-points-rise`);
 --   any two neighbouring turning points with day t from one to the other give t's value (`value-between`), so a day that
 --   ends one piece and begins the next has the same from both; a day between no two has none (`no-value`);
@@ -11,15 +11,16 @@
 -- Assumes nothing.
 use Prim.Native.Nat.{ℕ, suc, _+_, _*_, _≤_, _<_}
 use mathlib.Core.Path.{_≡_, refl, sym, _∙_, ap}
-use mathlib.Core.Bool.{Bool, true, false, true≢false, not}
+use mathlib.Core.Bool.{Bool, true, false, true≢false, not, _||_}
 use mathlib.Core.List.{List, [], _∷_, List·Memᴰ}
 use mathlib.Core.Option.{Option, none, some}
-use mathlib.Core.Logic.{_↔_}
+use mathlib.Core.Logic.{_↔_, _⊎_, inl, inr, ⊎-elim}
 use native.Mathlib.Nat.{lt-of-not-le}
 use native.Mathlib.Decide.{decLe}
 use native.Mathlib.Omega.{arith}
+use lib.Dec.{eqb}
 use lib.ListN.{length, getD, take, drop, List·getD-eq-default}
-use borrow.Author.Tests.{ltb-true, lt-ltb, leb-true, le-leb, not-true}
+use borrow.Author.Tests.{eqb-true, eq-eqb, ltb-true, lt-ltb, leb-true, le-leb, not-true}
 use Rattle.numbers.specs.Fraction.{half}
 use Rattle.numbers.specs.Lists.{Each}
 use Rattle.numbers.specs.Arithmetic.{Arithmetic, rounded, exact}
@@ -28,7 +29,7 @@ use Rattle.series.specs.Segments.{Segment}
 use Rattle.series.specs.Agreement.{Agree}
 use Rattle.series.proofs.Alone.{alone, missing-day}
 use Rattle.series.proofs.SegmentParts.{allParts, segment-part, part-segment}
-use Rattle.series.proofs.Views.{both-of}
+use Rattle.series.proofs.Views.{one-of, both-of}
 use Rattle.minima.specs.declared.block.Blocks.{Blocks}
 use Rattle.minima.specs.declared.LineSetting.{LineSetting}
 use Rattle.minima.specs.Blocks.{flowOn, blockStart, blockCount, minimumFlow, minimumDay, Minimum}
@@ -71,12 +72,25 @@ module _ (B : Blocks) (flows : List ℕ) (k : ℕ) where
   flow-of-minimum = minimum-flow B flows k
 
 -- turning points
-pub turning-test : (g left middle right : ℕ) → (turns g left middle right ≡ true) ↔ ((g * middle < 10000 * left) × (g * middle < 10000 * right))
+abbrev TurningMinimum : (g left middle right : ℕ) → Type 0
+TurningMinimum g left middle right = (middle ≡ 0) ⊎ ((g * middle < 10000 * left) × (g * middle < 10000 * right))
+
+either : (b : Bool) → (b || true) ≡ true
+either true = refl
+either false = refl
+
+pub turning-test : (g left middle right : ℕ) → (turns g left middle right ≡ true) ↔ TurningMinimum g left middle right
 unfolding turns
-turning-test g left middle right = (
-  (λ e. let h = both-of _ _ e in (ltb-true (g * middle) (10000 * left) (h .0), ltb-true (g * middle) (10000 * right) (h .1))),
-  (λ h. simp (lt-ltb (g * middle) (10000 * left) (h .0), lt-ltb (g * middle) (10000 * right) (h .1))),
-)
+turning-test g left middle right = (tested, turned)
+  where
+    tested : turns g left middle right ≡ true → TurningMinimum g left middle right
+    tested e =
+        ⊎-elim (λ z. inl (eqb-true middle 0 z))
+        (λ s. let h = both-of _ _ s in inr ((ltb-true (g * middle) (10000 * left) (h .0), ltb-true (g * middle) (10000 * right) (h .1)))) (one-of _ _ e)
+
+    turned : TurningMinimum g left middle right → turns g left middle right ≡ true
+    turned (inl z) = rw (eq-eqb middle 0 z)
+    turned (inr h) = simp (lt-ltb (g * middle) (10000 * left) (h .0), lt-ltb (g * middle) (10000 * right) (h .1)) (either (eqb middle 0))
 
 module _ (B : Blocks) (flows : List ℕ) where
   abbrev points : List ℕ

@@ -16,7 +16,7 @@ use Rattle.minima.specs.TurningPoints.{counting, turningPoints, neighbou
 unfoldable pub straight : (S : Arithmetic) → List ℕ → (i j t : ℕ) → S .Number
 straight S flows i j t = S .quotient (S .number (1000 * (flowOn flows i * (j - t) + flowOn flows j * (t - i)))) (j - i)
 
--- between turning points at i and j, day t from i to j has the smaller of 1000 × y(t) and that
+-- the value of day t between turning points on days i and j: that, or 1000 × y(t) where the flow is lower
 unfoldable pub between : (S : Arithmetic) → List ℕ → (i j t : ℕ) → S .Number
 between S flows i j t = S .least (S .number (1000 * flowOn flows t)) (straight S flows i j t)
 

@@ -1,16 +1,16 @@
 -- Turning points (document 01, "Block-minima line"), on the flows of one segment.
 use Prim.Native.Nat.{ℕ, zero, suc, _+_, _*_, _-_, _<_}
 use mathlib.Core.Path.{_≡_}
-use mathlib.Core.Bool.{Bool, true, _&&_}
+use mathlib.Core.Bool.{Bool, true, _&&_, _||_}
 use mathlib.Core.List.{List, [], _∷_, map}
-use lib.Dec.{ltb}
+use lib.Dec.{ltb, eqb}
 use Rattle.numbers.specs.Lists.{selected}
 use Rattle.minima.specs.declared.block.Blocks.{Blocks}
 use Rattle.minima.specs.Blocks.{blockCount, minimumFlow, minimumDay}
 
--- g × middle < 10000 × each outer one
+-- a dry block's minimum, 0, turns beside any neighbours; any other where g times it is below 10000 times either neighbour
 unfoldable pub turns : (g left middle right : ℕ) → Bool
-turns g left middle right = ltb (g * middle) (10000 * left) && ltb (g * middle) (10000 * right)
+turns g left middle right = eqb middle 0 || (ltb (g * middle) (10000 * left) && ltb (g * middle) (10000 * right))
 
 -- the same of the minima of three neighbouring blocks: k, k + 1 and k + 2
 unfoldable pub middleTurns : Blocks → List ℕ → (k : ℕ) → Bool

@@ -60,10 +60,13 @@ fn times(factor: u32, flow: u32) -> u64
     (factor as u64) * (flow as u64)
 }
 
-// The test of a turning point, by the flows of three minima.
+// The test of a turning point, by the flows of three minima. A dry block turns whatever is beside it.
 fn turns(g: u32, left: u32, middle: u32, right: u32) -> bool
     ensures { λ r. ⌜ r ≡ turns g left middle right ⌝ }
 {
+    if middle == 0 {
+        return true;
+    }
     let low = times(g, middle);
     if low < times(10_000, left) {
         return low < times(10_000, right);

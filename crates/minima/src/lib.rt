@@ -5,6 +5,7 @@ mod piece;
 mod segment;
 
 use block::Blocks;
+use segment::Lined;
 use series::Refusal;
 use series::Verdict;
 use series::lengths_differ;
@@ -12,6 +13,7 @@ use series::refuse_if;
 ghost use mathlib.Core.Path.{_≡_};
 ghost use Rattle.series.specs.Causes.{refusalOf, firstCause, Decides};
 ghost use Rattle.minima.specs.Call.{blocksOf, outOfRange, lineCauses, lineLeaves};
+ghost use Rattle.minima.specs.Private.{NextLined};
 
 // The setting of a line: the block length N in days, and the factor g of the turning points in ten-thousandths.
 pub struct LineSetting {
@@ -40,8 +42,9 @@ fn blocks_of(setting: LineSetting) -> Blocks
     }
 }
 
-// The causes of refusal, in the call's order.
-fn check(setting: LineSetting, days: &[u32], base: &[u64]) -> Verdict
+// The causes of refusal, in the call's order; the last by the first segment with a line.
+fn check(setting: LineSetting, days: &[u32], base: &[u64], first: Lined) -> Verdict
+    requires { ⌜ NextLined (blocksOf setting) (now days) 0 first ⌝ }
     ensures { λ r. ⌜ Decides (lineCauses setting (now (days .entry)) (now (base .entry))) r ⌝ }
 {
     let v = Verdict::Accepted;
@@ -49,8 +52,7 @@ fn check(setting: LineSetting, days: &[u32], base: &[u64]) -> Verdict
     let v = refuse_if(v, series::too_long(days), Refusal::DayListTooLong);
     let v = refuse_if(v, lengths_differ(days, base), Refusal::LengthsDiffer);
     let v = refuse_if(v, series::any_invalid_day(days), Refusal::InvalidDay);
-    let blocks = blocks_of(setting);
-    refuse_if(v, segment::no_line(blocks, days), Refusal::NoLine)
+    refuse_if(v, first.points.second.block == 0, Refusal::NoLine)
 }
 
 // The minima line of a day list, into a base list of the same length.
@@ -58,10 +60,12 @@ pub fn line(setting: LineSetting, days: &[u32], base: &mut [u64]) -> Verdict
     ensures { λ r. ⌜ refusalOf r ≡ firstCause (lineCauses setting (now (days .entry)) (now (base .entry))) ⌝ }
     ensures { λ r. ⌜ now (base .exit) ≡ lineLeaves setting (now (days .entry)) (now (base .entry)) ⌝ }
 {
-    let verdict = check(setting, days, base);
+    let blocks = blocks_of(setting);
+    let first = segment::next_lined(blocks, days, 0);
+    let verdict = check(setting, days, base, first);
     if let Verdict::Refused(refusal) = verdict {
         return Verdict::Refused(refusal);
     }
-    segment::draw(blocks_of(setting), days, base);
+    segment::draw(blocks, days, base, first);
     Verdict::Accepted
 }

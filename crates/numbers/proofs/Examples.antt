@@ -5,8 +5,8 @@ use lib.IntN.{pos, negsuc}
 use lib.Signed.{leZ-yes}
 use lib.Dec.{lit<}
 use Rattle.numbers.specs.Near.{near}
-use Rattle.numbers.specs.Fraction.{Fraction, whole, half, sum, difference, multiple, quotient, least, Within}
-use Rattle.numbers.specs.Arithmetic.{Weights, weighted, rounded, exact}
+use Rattle.numbers.specs.Fraction.{Fraction, whole, half, sum, opposite, difference, surplus, multiple, quotient, least, Within}
+use Rattle.numbers.specs.Arithmetic.{Weights, row, weighted, rounded, exact}
 
 below-half : near 149 100 ≡ 1
 unfolding near
@@ -65,14 +65,26 @@ within-sixth : Within sixth third half
 unfolding sixth third half sum
 within-sixth = record { above = leZ-yes tt; below = leZ-yes tt }
 
--- document 01's first river: method 1, p 9250, flows 100 and 200, from 50.000 to 57.500 litres a second
+-- a step with the weights of method 1 and p 9250: 222500750 / 20000 is 11125.0375
 lyne-hollick : Weights
-lyne-hollick = record { A = 18500; B = 750; C = 750; d = 20000 }
+lyne-hollick = record { A = 18500; B = 750; C = 750; E = 0; d = 20000 }
 
-step-rounded : weighted rounded lyne-hollick 50000 200000 100000 ≡ 57500
+step-rounded : weighted rounded lyne-hollick 10000 30001 20000 ≡ 11125
 unfolding weighted lyne-hollick near
 step-rounded = refl
 
-step-exact : weighted exact lyne-hollick (whole 50000) (whole 200000) (whole 100000) .upper ≡ pos 1150000000
-unfolding weighted lyne-hollick quotient sum multiple whole
+step-exact : weighted exact lyne-hollick (whole 10000) (whole 30001) (whole 20000) .upper ≡ pos 222500750
+unfolding weighted lyne-hollick quotient sum difference opposite surplus multiple whole
 step-exact = refl
+
+-- and one that comes out below zero: 10^6 × 500000 + 10^7 × 2000 - 5 × 10^6 × 1000000
+below : Weights
+below = row 1000000 10000000 (negsuc 4999999) 110000000
+
+below-rounded : weighted rounded below 500000 2000 1000000 ≡ 0
+unfolding weighted below near
+below-rounded = refl
+
+below-exact : weighted exact below (whole 500000) (whole 2000) (whole 1000000) .upper ≡ pos 0
+unfolding weighted below quotient sum difference opposite surplus multiple whole
+below-exact = refl

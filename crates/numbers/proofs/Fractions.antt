@@ -1,6 +1,6 @@
 -- The order of fractions in natural numbers, and what each operation of the arithmetic makes of an error: where a
 -- whole number lies within p of a fraction, the results of the two readings lie within what the laws here say.
--- The rounding step's error is shown here, once, for all A, B, C and d.
+-- The error of a rounding step stands here (`close-weighted`), for any A, B, C and d.
 -- Assumes nothing.
 use Prim.Native.Nat.{ℕ, zero, suc, _+_, _*_, _-_, _≤_, _<_, min}
 use mathlib.Core.Path.{_≡_, refl, ap, sym, subst}
@@ -13,10 +13,11 @@ use lib.IntN.{pos, _*ℤ_}
 use lib.Signed.{leZ, leZ-yes}
 use lib.Dec.{T}
 use Rattle.numbers.specs.Near.{near}
-use Rattle.numbers.specs.Fraction.{Fraction, whole, half, sum, opposite, difference, multiple, quotient, least, AtMost}
+use Rattle.numbers.specs.Whole.{up, down}
+use Rattle.numbers.specs.Fraction.{Fraction, whole, half, sum, opposite, difference, surplus, multiple, quotient, least, AtMost}
 use Rattle.numbers.specs.Arithmetic.{Close, Weights, weighted, rounded, exact}
 use Rattle.numbers.proofs.Rounding.{near-error}
-use Rattle.numbers.proofs.Whole.{up, down, up-of-minus, down-of-minus, order, otherwise, of-sum, up-of-multiple, down-of-multiple}
+use Rattle.numbers.proofs.Whole.{one-side, up-of-minus, down-of-minus, order, otherwise, of-sum, up-of-multiple, down-of-multiple}
 
 abbrev pub U : Fraction → ℕ
 U f = up (f .upper)
@@ -139,6 +140,37 @@ close-difference {p} {q} {m} {n} {f} {g} h k l =
       below = right-over (m - n) n m (D (sum f o)) (U (sum f o)) (L f * L g) (U (sum p q)) (D (sum p q)) (L p * L q) e (sum-one-sided 0 n m 0 (D f) (U f) (L f) (D o) (U o) (L g) (U p) (D p) (L p) (U q) (D q) (L q) (D (sum f o)) (U (sum f o)) (U (sum p q)) (D (sum p q)) (apart k .below) (turned l .1) (omega arith) t);
     })
 
+-- A difference that stops at zero, in both runs: keeping out what is below zero brings them no further apart. Here d is
+-- m - n, of which one of two holds, and U - D the exact difference, of which one is 0.
+module _ (m n d U D L Up Dp Lp : ℕ) (above : OneSided (m + 0) (0 + n) U D L Up Dp Lp) (below : OneSided (0 + n) (m + 0) D U L Up Dp Lp) where
+  positive : Dp * L ≤ Up * L
+  positive = omega arith
+
+  surplus-above : (d ≡ 0) ⊎ (d + n ≡ m) → OneSided d 0 U 0 L Up Dp Lp
+  surplus-above (inl e) = omega (arith, positive, ap (λ k. k * (L * Lp)) e)
+  surplus-above (inr e) = omega (arith, ap (λ k. k * (L * Lp)) e)
+
+  surplus-below : m ≤ d + n → (U ≡ 0) ⊎ (D ≡ 0) → OneSided 0 d 0 U L Up Dp Lp
+  surplus-below h (inl e) = omega (arith, positive, ap (λ k. k * Lp) e)
+  surplus-below h (inr e) = omega (arith, mul-le-mul-right (L * Lp) h, ap (λ k. k * Lp) e)
+
+cut-off : (m n : ℕ) → (m - n ≡ 0) ⊎ (m - n + n ≡ m)
+cut-off m n = elim (decLe n m) [ yes i ↦ inr (sub-add-cancel i) | no i ↦ inl (omega (arith, lt-of-not-le i)) ]
+
+pub close-surplus : {p q : Fraction} {m n : ℕ} {f g : Fraction} → Close p m f → Close q n g → Close (sum p q) (m - n) (surplus f g)
+unfolding surplus difference sum opposite
+close-surplus {p} {q} {m} {n} {f} {g} k l =
+    let o = opposite g in
+    let s = upper-of-sum f o in
+    let t = upper-of-sum p q in
+    let above = sum-one-sided m 0 0 n (U f) (D f) (L f) (U o) (D o) (L g) (U p) (D p) (L p) (U q) (D q) (L q) (U (sum f o)) (D (sum f o)) (U (sum p q)) (D (sum p q)) (apart k .above) (turned l .0) s t in
+    let below = sum-one-sided 0 n m 0 (D f) (U f) (L f) (D o) (U o) (L g) (U p) (D p) (L p) (U q) (D q) (L q) (D (sum f o)) (U (sum f o)) (U (sum p q)) (D (sum p q)) (apart k .below) (turned l .1) (omega arith) t in
+    close
+    (record {
+      above = surplus-above m n (m - n) (U (sum f o)) (D (sum f o)) (L f * L g) (U (sum p q)) (D (sum p q)) (L p * L q) above below (cut-off m n);
+      below = surplus-below m n (m - n) (U (sum f o)) (D (sum f o)) (L f * L g) (U (sum p q)) (D (sum p q)) (L p * L q) above below (omega arith) (one-side (sum f o .upper));
+    })
+
 pub close-multiple : (k : ℕ) {p : Fraction} {n : ℕ} {f : Fraction} → Close p n f → Close (multiple k p) (k * n) (multiple k f)
 unfolding multiple
 close-multiple k {p} {n} {f} h =
@@ -198,9 +230,37 @@ close-weaken {p} {q} {n} {f} h k =
       below = le-of-mul-le-mul-right {k = L p} (omega (arith, mul-le-mul-right (L q) (apart k .below))) (p .above-zero);
     })
 
--- the rounding step: its error is the same step over the errors, and one half
+-- two multiples of a fraction that are added one after the other are one
+merged-numbers : (Ux Dx Lx Ur Dr Lr C E U₁ D₁ U₂ D₂ U₃ D₃ : ℕ) → U₁ + (Dx * Lr + Dr * C * Lx) ≡ Ux * Lr + Ur * C * Lx + D₁
+    → U₂ + (D₁ * Lr + Dr * E * (Lx * Lr)) ≡ U₁ * Lr + Ur * E * (Lx * Lr) + D₂
+    → U₃ + (Dx * Lr + Dr * (C + E) * Lx) ≡ Ux * Lr + Ur * (C + E) * Lx + D₃
+    → U₂ * (Lx * Lr) + D₃ * (Lx * Lr * Lr) ≤ U₃ * (Lx * Lr * Lr) + D₂ * (Lx * Lr)
+merged-numbers Ux Dx Lx Ur Dr Lr C E U₁ D₁ U₂ D₂ U₃ D₃ e₁ e₂ e₃ =
+    let same : U₂ + D₃ * Lr ≡ U₃ * Lr + D₂ = omega (arith, ap (λ n. n * Lr) e₁, ap (λ n. n * Lr) e₃) in
+    let times = ap (λ n. n * (Lx * Lr)) same in
+    omega arith
+
+merged : (x r : Fraction) (C E : ℕ) → AtMost (sum (sum x (multiple C r)) (multiple E r)) (sum x (multiple (C + E) r))
+unfolding sum multiple
+merged x r C E =
+    let s₁ = sum x (multiple C r) in
+    let s₂ = sum s₁ (multiple E r) in
+    let s₃ = sum x (multiple (C + E) r) in
+    let u = up-of-multiple (r .upper) in
+    let d = down-of-multiple (r .upper) in
+    in-naturals s₂ s₃ .1
+    (merged-numbers (U x) (D x) (L x) (U r) (D r) (L r) C E (U s₁) (D s₁) (U s₂) (D s₂) (U s₃) (D s₃)
+    (omega (arith, upper-of-sum x (multiple C r), ap (λ n. n * L x) (u C), ap (λ n. n * L x) (d C)))
+    (omega (arith, upper-of-sum s₁ (multiple E r), ap (λ n. n * (L x * L r)) (u E), ap (λ n. n * (L x * L r)) (d E)))
+    (omega (arith, upper-of-sum x (multiple (C + E) r), ap (λ n. n * L x) (u (C + E)), ap (λ n. n * L x) (d (C + E)))))
+
+-- the rounding step: its error is that of each part, also of what is taken away, divided by d, and one half
+abbrev pub stepError : Weights → (p q r : Fraction) → Fraction
+stepError w p q r = sum (quotient (sum (sum (multiple (w .A) p) (multiple (w .B) q)) (multiple (w .C + w .E) r)) (w .d)) half
+
 pub close-weighted : (w : Weights) {p q r : Fraction} {f u v : ℕ} {f̂ û v̂ : Fraction} → 0 < w .d → Close p f f̂ → Close q u û → Close r v v̂
-    → Close (sum (weighted exact w p q r) half) (weighted rounded w f u v) (weighted exact w f̂ û v̂)
+    → Close (stepError w p q r) (weighted rounded w f u v) (weighted exact w f̂ û v̂)
 unfolding weighted
 close-weighted w h k l m =
-    close-quotient (w .d) h (close-sum (close-sum (close-multiple (w .A) k) (close-multiple (w .B) l)) (close-multiple (w .C) m))
+    close-quotient (w .d) h
+    (close-weaken (merged _ _ (w .C) (w .E)) (close-surplus (close-sum (close-sum (close-multiple (w .A) k) (close-multiple (w .B) l)) (close-multiple (w .C) m)) (close-multiple (w .E) m)))

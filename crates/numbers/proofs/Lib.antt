@@ -1,5 +1,6 @@
 pub mod Rounding
-mod Whole
+pub mod Whole
+pub mod Signs
 pub mod Fractions
 pub mod Quantities
 pub mod Scanning

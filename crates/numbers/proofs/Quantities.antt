@@ -1,17 +1,20 @@
 -- Fractions that are not below zero, by the two natural numbers that they are made of; and by that what the two readings
 -- of a rule keep.
 -- Assumes nothing.
-use Prim.Native.Nat.{ℕ, zero, suc, _+_, _*_, _≤_, _<_}
-use mathlib.Core.Path.{_≡_, refl, ap, ap₂, sym, subst}
+use Prim.Native.Nat.{ℕ, zero, suc, _+_, _*_, _-_, _≤_, _<_}
+use mathlib.Core.Path.{_≡_, refl, _∙_, ap, ap₂, sym, subst}
+use mathlib.Core.Logic.{⊎-elim}
 use native.Mathlib.Nat.{min-eq-left}
 use native.Mathlib.Omega.{arith}
 use borrow.Author.Tests.{le-leb}
-use lib.IntN.{pos, _+ℤ_, _*ℤ_}
+use lib.IntN.{ℤ, pos, _+ℤ_, _*ℤ_}
 use Rattle.numbers.specs.Near.{near}
 use Rattle.numbers.specs.Fraction.{Fraction, whole, half, sum, multiple, quotient, least, AtMost}
-use Rattle.numbers.specs.Arithmetic.{Arithmetic, Close, Weights, weighted, rounded, exact}
+use Rattle.numbers.specs.Whole.{up, down}
+use Rattle.numbers.specs.Arithmetic.{Arithmetic, Close, Weights, row, weighted, rounded, exact}
+use Rattle.numbers.proofs.Whole.{one-side, of-sum, up-of-multiple, down-of-multiple}
 use Rattle.numbers.proofs.Rounding.{near-by-zero, near-whole}
-use Rattle.numbers.proofs.Fractions.{in-naturals, close-number, close-quotient, close-weaken}
+use Rattle.numbers.proofs.Fractions.{in-naturals, close-number, close-quotient, close-weaken, stepError}
 
 -- f is a / l
 pub record Reads (f : Fraction) (a l : ℕ) : Type 0 where
@@ -48,16 +51,23 @@ pub at-most : {f g : Fraction} {a l b m : ℕ} → Reads f a l → Reads g b m �
 at-most {f} {g} {a} {l} {b} {m} r s h =
     in-naturals f g .1 (rw (r .upper, s .upper, r .lower, s .lower) (omega arith))
 
--- (A × f + B × u + C × v) / d, of fractions and of whole numbers
-pub reads-weighted : (w : Weights) {f u v : Fraction} {a k b l c m : ℕ} → 0 < w .d → Reads f a k → Reads u b l → Reads v c m
-    → Reads (weighted exact w f u v) ((a * w .A * l + b * w .B * k) * m + c * w .C * (k * l)) (k * l * m * w .d)
-unfolding weighted
-reads-weighted w h r s t =
-    reads-quotient (w .d) h (reads-sum (reads-sum (reads-multiple (w .A) r) (reads-multiple (w .B) s)) (reads-multiple (w .C) t))
+-- the error of a rounding step
+pub reads-error : (w : Weights) {p q r : Fraction} {a k b l c m : ℕ} → 0 < w .d → Reads p a k → Reads q b l → Reads r c m
+    → Reads (stepError w p q r) (((a * w .A * l + b * w .B * k) * m + c * (w .C + w .E) * (k * l)) * 2 + 1 * (k * l * m * w .d)) (k * l * m * w .d * 2)
+reads-error w h r s t =
+    reads-sum (reads-quotient (w .d) h (reads-sum (reads-sum (reads-multiple (w .A) r) (reads-multiple (w .B) s)) (reads-multiple (w .C + w .E) t))) reads-half
 
-pub weighted-rounded : (w : Weights) (f u v : ℕ) → weighted rounded w f u v ≡ near (w .A * f + w .B * u + w .C * v) (w .d)
+-- the rounding step over whole numbers
+pub weighted-rounded : (w : Weights) (f u v : ℕ) → weighted rounded w f u v ≡ near (w .A * f + w .B * u + w .C * v - w .E * v) (w .d)
 unfolding weighted
 weighted-rounded w f u v = refl
+
+-- A × f + B × u + C × v as it is rounded, for a C of either sign: itself, and 0 where it is below zero
+pub signed-sum : (A B d : ℕ) (C : ℤ) (f u v : ℕ) → weighted rounded (row A B C d) f u v ≡ near (up (pos (A * f + B * u) +ℤ (C *ℤ pos v))) d
+signed-sum A B d C f u v = weighted-rounded (row A B C d) f u v ∙ ap (λ n. near n d) (parts (A * f + B * u) (C *ℤ pos v) (up-of-multiple C v) (down-of-multiple C v))
+  where
+    parts : (x : ℕ) (z : ℤ) → up z ≡ up C * v → down z ≡ down C * v → x + up C * v - down C * v ≡ up (pos x +ℤ z)
+    parts x z e f = ⊎-elim (λ h. omega (arith, of-sum (pos x) z)) (λ h. omega (arith, of-sum (pos x) z)) (one-side (pos x +ℤ z))
 
 -- a whole number is exact
 pub close-exact : {l : Fraction} {a m : ℕ} (n : ℕ) → Reads l a m → Close l n (whole n)

@@ -4,7 +4,7 @@
 use Prim.Native.Nat.{ℕ, zero, suc, _+_, _*_, _-_, _/_, _%_, _≤_, _<_}
 use mathlib.Core.Path.{_≡_, sym, ap, subst}
 use mathlib.Core.Logic.{⊎-elim}
-use native.Mathlib.Nat.{mul-le-mul-right, mul-le-mul-left, lt-div-mul-add, div-mul-le-self, div-eq-of-lt-le, div-zero, div-add-mod', mod-lt, eq-or-lt-of-le, lt-of-not-le}
+use native.Mathlib.Nat.{mul-pos, mul-le-mul-right, mul-le-mul-left, lt-div-mul-add, div-mul-le-self, div-eq-of-lt-le, div-zero, div-add-mod', mod-lt, eq-or-lt-of-le, lt-of-not-le}
 use native.Mathlib.Decide.{decLe}
 use native.Mathlib.Omega.{arith}
 use Rattle.numbers.specs.Near.{near, distance, Nearest, NearestHalvesUp}
@@ -75,6 +75,12 @@ unfolding near
 near-is a b n p l h = div-eq-of-lt-le {k = n} (2 * b) {m = 2 * a + b} (omega arith) (omega arith)
 
 -- near by one division, as the code does it
+-- the same fraction
+pub near-scaled : (k a b : ℕ) → 0 < k → 0 < b → near (k * a) (k * b) ≡ near a b
+near-scaled k a b h p =
+    let strict : 2 * a + 1 ≤ 2 * (near a b * b) + b = omega (arith, high a b p) in
+    near-is (k * a) (k * b) (near a b) (mul-pos h p) (omega (arith, mul-le-mul-left k (low a b p))) (omega (arith, mul-le-mul-left k strict))
+
 pub near-by-zero : (a : ℕ) → near a 0 ≡ 0
 unfolding near
 near-by-zero a = div-zero (2 * a + 0)
@@ -92,3 +98,8 @@ up-fits a b p h = omega (arith, div-add-mod' a b, mod-lt a p, mul-le-mul-left (a
 pub near-halved : (a b : ℕ) → 0 < b → near a b ≡ (a + b / 2) / b
 near-halved a b p =
     near-is a b ((a + b / 2) / b) p (omega (arith, div-mul-le-self (a + b / 2) b)) (omega (arith, lt-div-mul-add {a = a + b / 2} {b = b} p))
+
+-- and of a difference, with the half added before the loss is taken: what is left of the half alone makes no whole
+pub near-left : (a loss b : ℕ) → 0 < b → near (a - loss) b ≡ (a + b / 2 - loss) / b
+near-left a loss b p =
+    near-is (a - loss) b ((a + b / 2 - loss) / b) p (omega (arith, div-mul-le-self (a + b / 2 - loss) b)) (omega (arith, p, lt-div-mul-add {a = a + b / 2 - loss} {b = b} p))

@@ -1,9 +1,9 @@
--- Whole numbers of either sign as the difference of two natural numbers, of which one is zero: `up z - down z`.
+-- Whole numbers of either sign as the difference of their two parts, of which one is zero: `up z - down z`.
 -- By these laws an order of sums and multiples becomes one of natural numbers, which `omega` proves.
 -- Assumes nothing.
 use Prim.Native.Nat.{ℕ, zero, suc, _+_, _*_, _≤_}
 use mathlib.Core.Path.{_≡_, refl}
-use mathlib.Core.Logic.{_↔_}
+use mathlib.Core.Logic.{_↔_, _⊎_, inl, inr}
 use mathlib.Core.Bool.{Bool, true, false, true≢false}
 use native.Mathlib.Omega.{arith}
 use lib.IntN.{ℤ, pos, negsuc, negℤ, subℕ, _+ℤ_, _*ℤ_}
@@ -11,14 +11,11 @@ use lib.Signed.{_≤ℤ_, leZ}
 use lib.Dec.{leb→le, le→leb, ltb}
 use borrow.Author.Tests.{ltb-true, ltb-false, leb-false}
 use native.Mathlib.Nat.{le-of-lt}
+use Rattle.numbers.specs.Whole.{up, down}
 
-abbrev pub up : ℤ → ℕ
-up (pos n) = n
-up (negsuc n) = 0
-
-abbrev pub down : ℤ → ℕ
-down (pos n) = 0
-down (negsuc n) = suc n
+pub one-side : (z : ℤ) → (up z ≡ 0) ⊎ (down z ≡ 0)
+one-side (pos n) = inr refl
+one-side (negsuc n) = inl refl
 
 pub order : (a b : ℤ) → (a ≤ℤ b) ↔ (up a + down b ≤ up b + down a)
 order (pos a) (pos b) = ((λ h. omega (arith, leb→le a b (h .le))), (λ h. record { le = le→leb a b (omega arith) }))

@@ -1,4 +1,4 @@
--- Exact fractions (document 01, "Filters"): two whole numbers, the upper of either sign and the lower above zero.
+-- Exact fractions (document 01, "Filters"): an upper whole number, which may be below zero, over a lower one above zero.
 -- Everything is done by cross-multiplying, and nothing is reduced.
 use Prim.Native.Nat.{ℕ, zero, suc, _*_, _<_}
 use native.Mathlib.Nat.{mul-pos, zero-lt-suc}
@@ -6,6 +6,7 @@ use mathlib.Core.Bool.{cond}
 use lib.IntN.{ℤ, pos, negℤ, _+ℤ_, _*ℤ_}
 use lib.Signed.{_≤ℤ_, leZ}
 use lib.Dec.{lit<}
+use Rattle.numbers.specs.Whole.{up}
 
 pub record Fraction : Type 0 where
   pub upper : ℤ
@@ -35,6 +36,11 @@ opposite f = record { upper = negℤ (f .upper); lower = f .lower; above-zero = 
 unfoldable pub difference : Fraction → Fraction → Fraction
 unfolding sum opposite
 difference f g = sum f (opposite g)
+
+-- f - g, and 0 where that is below zero
+unfoldable pub surplus : Fraction → Fraction → Fraction
+unfolding difference
+surplus f g = let d = difference f g in record { upper = pos (up (d .upper)); lower = d .lower; above-zero = d .above-zero }
 
 -- k times f
 unfoldable pub multiple : ℕ → Fraction → Fraction

@@ -1,4 +1,5 @@
 pub mod Near
+pub mod Whole
 pub mod Fraction
 pub mod Arithmetic
 pub mod Scan

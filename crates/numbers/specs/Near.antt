@@ -1,4 +1,4 @@
--- near, document 01's rounding ("Units"): the nearest whole number, halves going up.
+-- near, document 01's rounding ("Units"): to the nearest whole number, and at a half to the upper one.
 use Prim.Native.Nat.{ℕ, _+_, _*_, _-_, _/_, _≤_}
 use mathlib.Core.Path.{_≡_}
 

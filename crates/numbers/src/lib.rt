@@ -1,7 +1,8 @@
-// Rounding to the nearest whole number, document 01's near; and the smaller of two lengths.
+// Rounding to the nearest whole number, document 01's near; the smaller of two lengths; the parts of a number of either sign.
 ghost use mathlib.Core.Path.{_≡_};
-ghost use Prim.Native.Nat.{_+_, _≤_, _<_, min};
+ghost use Prim.Native.Nat.{_+_, _-_, _≤_, _<_, min};
 ghost use Rattle.numbers.specs.Near.{near};
+ghost use Rattle.numbers.specs.Whole.{up, down};
 
 // near(a / b), for any a and b. As near's definition has it, a quotient by zero is 0.
 pub fn near(a: u64, b: u64) -> u64
@@ -23,8 +24,42 @@ pub fn near_small(a: u64, b: u64) -> u64
     (a + b / 2) / b
 }
 
+// What is left of two gains, and 0 where the loss is larger. Only one step follows `last`.
+fn balance(last: u64, first: u64, loss: u64) -> u64
+    requires { ⌜ last + first ≤ 18446744073709551615 ⌝ }
+    ensures { λ r. ⌜ r ≡ last + first - loss ⌝ }
+{
+    if loss <= first {
+        return last + (first - loss);
+    }
+    let more = loss - first;
+    if last < more { 0 } else { last - more }
+}
+
+// near((last + first - loss) / b), with 0 above the line where the loss is larger: for a filter, whose next day has to
+// wait for `last` alone.
+pub fn near_balance(last: u64, first: u64, loss: u64, b: u64) -> u64
+    requires { ⌜ (0 < b) × (last + first + b ≤ 18446744073709551615) ⌝ }
+    ensures { λ r. ⌜ r ≡ near (last + first - loss) b ⌝ }
+{
+    balance(last, first + b / 2, loss) / b
+}
+
 pub fn least(a: usize, b: usize) -> usize
     ensures { λ r. ⌜ r ≡ min a b ⌝ }
 {
     if a < b { a } else { b }
+}
+
+// The part of a number above zero, and the part below zero: no other function computes with a sign.
+pub fn above_zero(s: i32) -> u64
+    ensures { λ r. ⌜ r ≡ up s ⌝ }
+{
+    if 0 < s { s as u64 } else { 0 }
+}
+
+pub fn below_zero(s: i32) -> u64
+    ensures { λ r. ⌜ r ≡ down s ⌝ }
+{
+    if s < 0 { (-(s as i64)) as u64 } else { 0 }
 }

@@ -1,4 +1,4 @@
--- Rivers computed by the checker: document 01's (◆), and one for each edge of its rules.
+-- Rivers computed by the checker, one for each edge of the rules. Document 01's own rivers (◆) stand in the crate worked.
 -- Assumes nothing.
 use Prim.Native.Nat.{ℕ}
 use mathlib.Core.Path.{_≡_, refl}
@@ -37,13 +37,8 @@ gap = missingMark
 
 abbrev rivers : List River
 rivers =
-    -- ◆ a fall of three days at L 3 and at L 4
-    record { L = 3; days = 100 ∷ 90 ∷ 81 ∷ []; list = room; answer = values 2 9000; listed = entry 0 3 ∷ [] }
-    ∷ record { L = 4; days = 100 ∷ 90 ∷ 81 ∷ []; list = room; answer = refused 19; listed = [] }
-    -- ◆ k even: the lower of the two in the middle
-    ∷ record { L = 3; days = 100 ∷ 50 ∷ 40 ∷ []; list = room; answer = values 2 5000; listed = entry 0 3 ∷ [] }
-    -- k odd, and the ratios in no order
-    ∷ record { L = 2; days = 100 ∷ 90 ∷ 45 ∷ 36 ∷ []; list = room; answer = values 3 8000; listed = entry 0 4 ∷ [] }
+    -- the ratios in no order; k odd, and k even: the lower of the two in the middle
+    record { L = 2; days = 100 ∷ 90 ∷ 45 ∷ 36 ∷ []; list = room; answer = values 3 8000; listed = entry 0 4 ∷ [] }
     ∷ record { L = 2; days = 100 ∷ 90 ∷ 45 ∷ 36 ∷ 9 ∷ []; list = room; answer = values 4 5000; listed = entry 0 5 ∷ [] }
     -- equal neighbours part a fall
     ∷ record { L = 2; days = 100 ∷ 90 ∷ 90 ∷ 81 ∷ []; list = room; answer = values 2 9000; listed = entry 0 2 ∷ entry 2 2 ∷ [] }

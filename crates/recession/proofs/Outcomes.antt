@@ -1,10 +1,10 @@
 -- What the call's tests and counts come to: document 01's answer, and the limb list at exit.
 -- Assumes nothing.
-use Prim.Native.Nat.{ℕ, zero, suc, _+_, _*_, _/_, _≤_, _<_, _^_}
+use Prim.Native.Nat.{ℕ, zero, suc, _+_, _*_, _/_, _≤_}
 use mathlib.Core.Path.{_≡_, refl, sym, _∙_, ap, ap₂, subst}
 use mathlib.Core.List.{List, [], _∷_, map, List·Permᴰ, Permᴰ·refl}
 use mathlib.Core.Option.{none}
-use native.Mathlib.Nat.{pos-of-ne-zero, zero-add}
+use native.Mathlib.Nat.{zero-add}
 use native.Mathlib.Omega.{arith}
 use borrow.Author.Tests.{eqb-false, ltb-false}
 use lib.Dec.{eqb, ltb}
@@ -90,12 +90,9 @@ module _ {L : ℕ} {days : List ℕ} (c : Checked L days) where
     unfolding countedRatios
     each v = omega (arith, all .added .each v, all-zero 10001 v, ap (λ ls. howMany v (limbRatios ls)) same)
 
-    counted-all : total counts ≡ t .ratios
+    pub counted-all : total counts ≡ t .ratios
     unfolding countedRatios countedLimbs
     counted-all = total-all counts (countedRatios L days) each sized (ratios-at-most L (limbDays days)) ∙ sym same-count
-
-    pub rank-found : (t .ratios ≡ 0 → ⊥) → (0 < (t .ratios + 1) / 2) × ((t .ratios + 1) / 2 ≤ total counts) × (total counts < 2 ^ 32)
-    rank-found f = let h = pos-of-ne-zero f in omega (arith, counted-all, ratios-fit)
 
     pub entries-fit : {n : ℕ} → 2 * t .limbs ≤ n → length (entries (limbsFrom L days 0)) ≤ n
     entries-fit room = omega (arith, all .limbs, entries-length (limbsFrom L days 0))

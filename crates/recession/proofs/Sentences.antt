@@ -23,8 +23,8 @@ use Rattle.recession.proofs.Median.{median-at-most}
 use Rattle.recession.proofs.Selection.{counted-is, is-counted, counted-once}
 use Rattle.recession.proofs.Consequences.{ratios-at-most, no-ratio-no-limb, no-limb-no-ratio}
 
--- A limb counts exactly if its days are neighbouring, present, each strictly below the one before, no day on either side
--- could join (`RecessionLimb`), and they are at least L.
+-- A limb counts exactly if its days are neighbouring, present, each of a smaller flow than the one before, none more on
+-- either side (`RecessionLimb`), and they are at least L.
 pub limb-sentence : (L : ℕ) (days : List (Option ℕ)) (l : Limb) → List·Memᴰ l (counted L days) ↔ (RecessionLimb days l × (L ≤ length (l .flows)))
 limb-sentence L days l = (counted-is L days, λ s. is-counted L days (s .0) (s .1))
 

@@ -17,7 +17,7 @@ use Rattle.recession.specs.declared.Answer.the-variants.{Ratios, Refused
 unfoldable pub noRatio : List ℕ → Bool
 noRatio ratios = eqb (length ratios) 0
 
--- 22: limb list shorter than two per counted limb
+-- 22: the limb list does not have two numbers for each counted limb
 unfoldable pub limbListTooShort : List Limb → List ℕ → Bool
 limbListTooShort limbs list = ltb (length list) (2 * length limbs)
 

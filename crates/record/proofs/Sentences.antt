@@ -1,4 +1,4 @@
--- READ THIS FIRST. Document 01's sentences on reading, entry by entry, of the definition in specs/Reading.antt, which
+-- READ THIS FIRST. Document 01's sentences on reading, entry by entry, of the definition in specs/Call.antt, which
 -- passes over a body byte by byte. Between them they say what any bytes come to.
 -- Assumes nothing.
 use Prim.Native.Nat.{ℕ, zero, suc, _+_}

@@ -1,4 +1,4 @@
--- An entry of a record (document 01, "The record"): one byte of kind, then its body; and the causes that refuse it.
+-- An entry of a record (document 01, "The record"): a byte that tells its kind, and the body of that kind; and the causes that refuse it.
 use Prim.Native.Nat.{ℕ, _+_, _*_}
 use mathlib.Core.Bool.{Bool, true, false, cond, not, _&&_}
 use mathlib.Core.List.{List, [], _∷_}
@@ -13,7 +13,7 @@ use Rattle.record.specs.declared.entry.Kind.the-variants.{Head, Flow, Mi
 abbrev pub firstDayLimit : ℕ
 firstDayLimit = 99999
 
--- numbers in files are unsigned, low byte first
+-- a number of a record has no sign, and its lowest byte comes first
 unfoldable pub number : List ℕ → ℕ
 number [] = 0
 number (b ∷ bs) = b + 256 * number bs
@@ -56,8 +56,8 @@ bodyLength MissingDays = 2
 bodyLength End = 4
 bodyLength Unknown = 0
 
--- the value of its body is outside its range: first day, flow, count of missing days; the end count has no range of its
--- own, a kind without a body has no value
+-- the value of its body is outside its range: first day, flow, count of missing days; the end count may be any
+-- number, and a kind without a body has no value
 abbrev pub outOfRange : Kind → ℕ → Bool
 outOfRange Head v = not (within 0 firstDayLimit v)
 outOfRange Flow v = not (within 0 flowLimit v)
@@ -92,12 +92,12 @@ value e = number (e .body)
 abbrev pub statedDays : Entry → List ℕ
 statedDays e = daysOf (e .kind) (value e)
 
--- the head comes first and only there: a first entry that is no head, or a later head
+-- a first entry that is not a head, or a later one that is
 abbrev pub misplaced : Bool → Kind → Bool
 misplaced true k = not (isHead k)
 misplaced false k = isHead k
 
--- "Checks go entry by entry": the causes that refuse an entry, in document 01's order. `first` says that no entry stands
+-- The causes that refuse an entry, in the order in which document 01 has them checked. `first` says that no entry stands
 -- before it, n is the number of days before it, `room` the length of the day list.
 unfoldable pub entryCauses : Bool → ℕ → ℕ → Entry → List Cause
 entryCauses first n room e =

@@ -22,7 +22,7 @@ ghost use Rattle.record.specs.Entries.{kindOf, misplaced, entryCauses};
 ghost use Rattle.record.specs.Call.{reading, outcomeOf, replyOf};
 ghost use Rattle.record.specs.Private.{entryAt, statesDays, Stepped};
 
-// The head comes first and only there.
+// Whether an entry is out of its place: a first one that is not a head, or a later one that is.
 fn is_misplaced(kind: Kind, first: bool) -> bool
     ensures { λ r. ⌜ r ≡ misplaced first kind ⌝ }
 {
@@ -39,7 +39,7 @@ fn both(a: bool, b: bool) -> bool
 }
 
 // The checks of the entry at `at`, behind `counted` days, for a list of `room` days: kind, place, body complete; and, of
-// one that is complete, value, total days, list space, and at the end entry its count, then bytes behind it.
+// one that is complete, value, total days, list space, and for an end entry then its count and what lies behind it.
 fn check_entry(bytes: &[u8], at: usize, counted: usize, room: usize) -> Verdict
     requires { ⌜ (at < length (now bytes)) × (counted ≤ dayLimit) × (counted ≤ room) ⌝ }
     ensures { λ r. ⌜ Decides (entryCauses (eqb at 0) counted room (entryAt (now (bytes .entry)) at)) r ⌝ }

@@ -1,4 +1,4 @@
-// The entries of a record: one byte of kind, then its body. Numbers are joined directly from the caller's bytes.
+// The entries of a record: a byte that tells the kind, and its body. Numbers are joined directly from the caller's bytes.
 use series::FLOW_LIMIT;
 ghost use mathlib.Core.Path.{_≡_};
 ghost use mathlib.Core.Bool.{false};

@@ -30,7 +30,7 @@ impl Answer {
 }
 
 // Reads a record into the day list. The first walk checks all bytes and counts the days; the second stores them, and runs
-// only after the whole record has passed.
+// only where the first found nothing to refuse.
 pub fn read(bytes: &[u8], days: &mut [u32]) -> Answer
     ensures answer { λ r. ⌜ outcomeOf r ≡ replyOf (reading (length (now (days .entry))) (now (bytes .entry))) ⌝ }
     ensures list { λ _. ⌜ now (days .exit) ≡ readLeaves (reading (length (now (days .entry))) (now (bytes .entry))) (now (days .entry)) ⌝ }

@@ -22,7 +22,7 @@ use Rattle.report.proofs.Numerals.{decimal-length, last-length}
 
 -- the setting is accepted
 pub usable : Usable setting
-usable = method-1-usable setting refl (omega arith) (omega arith) refl
+usable = method-1-usable setting refl (omega arith) (omega arith) refl refl
 
 -- where no base value of a present day lies above its flow
 abbrev AtMostFlow : (days : List (Option ℕ)) → (base : List ℕ) → Type 0

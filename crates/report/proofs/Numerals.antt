@@ -84,20 +84,32 @@ more-digits ds d h e s =
       digits = digits-append ds (digit d ∷ []) (s .digits) ((omega arith, omega arith), tt);
     }
 
-first-kept : (ds es : List ℕ) → 48 < getD ds 0 0 → 48 < getD (ds ++ es) 0 0
-first-kept [] es h = absurd (omega arith)
-first-kept (d ∷ ds) es h = h
+-- above zero no zero stands first, and none comes to stand there behind more digits
+first-kept : {n : ℕ} (ds es : List ℕ) → DecimalOf n ds → 0 < n → 48 < getD (ds ++ es) 0 0
+unfolding readOn
+first-kept [] es r h = absurd (omega (arith, r .some-digit))
+first-kept (d ∷ []) es r h = omega (arith, r .says .value)
+first-kept (d ∷ e ∷ ds) es r h = r .no-zero-first (omega arith)
 
 one-digit : (n : ℕ) → n < 10 → DecimalOf n (digit n ∷ [])
 unfolding readOn
-one-digit n h = record { says = record { value = omega arith; digits = ((omega arith, omega arith), tt) }; no-zero-first = λ p. omega arith }
+one-digit n h = record { says = record { value = omega arith; digits = ((omega arith, omega arith), tt) }; some-digit = omega arith; no-zero-first = λ p. absurd (omega arith) }
 
--- a number in decimal: its digits, read in base ten, say the number, with no zero before the first
+-- a number from ten on: the digits of n / 10, and then the last
+one-more : (n : ℕ) (ds : List ℕ) → 10 ≤ n → DecimalOf (n / 10) ds → DecimalOf n (ds ++ digit (n % 10) ∷ [])
+one-more n ds h r =
+    record {
+      says = more-digits ds (n % 10) (omega arith) (omega arith) (r .says);
+      some-digit = omega (arith, length-append ds (digit (n % 10) ∷ []));
+      no-zero-first = λ p. first-kept ds (digit (n % 10) ∷ []) r (omega arith);
+    }
+
+-- a number in decimal: its digits, read in base ten, say the number; there is one, and no zero stands before others
 pub says-within : (k n : ℕ) → n ≤ k → DecimalOf n (decimal n)
 says-within zero n h = subst (DecimalOf n) (decimal-below n (omega arith)) (one-digit n (omega arith))
 says-within (suc k) n h =
     elim (decLe 10 n) [
-      | yes m ↦ let r = says-within k (n / 10) (omega arith) in subst (DecimalOf n) (decimal-more n m) (record { says = more-digits _ (n % 10) (omega arith) (omega arith) (r .says); no-zero-first = λ p. first-kept (decimal (n / 10)) (digit (n % 10) ∷ []) (r .no-zero-first (omega arith)) })
+      | yes m ↦ subst (DecimalOf n) (decimal-more n m) (one-more n (decimal (n / 10)) m (says-within k (n / 10) (omega arith)))
       | no m ↦ let b = lt-of-not-le m in subst (DecimalOf n) (decimal-below n b) (one-digit n b)
     ]
 

@@ -27,7 +27,8 @@ use Rattle.report.specs.Text.{setting, baseFlow, dayLine, dayLines, reco
 use Rattle.report.proofs.Numerals.{says-within, last-digits, last-length}
 use Rattle.report.proofs.Lengths.{usable, record-length}
 
--- the digits of a number, read from the left in base ten, say the number; no zero stands before them
+-- the digits of a number, read from the left in base ten, say the number; there is at least one, and no zero stands before
+-- others
 decimal-says : (n : ℕ) → DecimalOf n (decimal n)
 decimal-says n = says-within n n (le-refl n)
 

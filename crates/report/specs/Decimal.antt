@@ -1,11 +1,11 @@
--- Numbers as text. "Digits come out most significant first" (document 01).
+-- Numbers as text, the highest digit first (document 01, "Rivers worked through").
 use Prim.Native.Nat.{ℕ, zero, suc, _+_, _-_, _*_, _/_, _%_, _^_, _≤_, _<_}
 use Prim.Native.Char.{code}
 use Prim.Native.String.{String, [] as no-text, _∷_ as _&_}
 use mathlib.Core.Path.{_≡_}
 use mathlib.Core.Bool.{cond}
 use mathlib.Core.List.{List, [], _∷_, _++_}
-use lib.ListN.{getD}
+use lib.ListN.{length, getD}
 use lib.Dec.{ltb}
 
 -- the bytes of a quoted text, a byte for each character
@@ -37,8 +37,9 @@ lastDigits (suc k) n = lastDigits k (n / 10) ++ digit (n % 10) ∷ []
 abbrev pub fixedPoint : ℕ → ℕ → List ℕ
 fixedPoint k n = decimal (n / 10 ^ k) ++ characters "." ++ lastDigits k n
 
--- What makes characters the digits of a number: what they say in base ten, read from the left; that each is a digit; and
--- that no zero stands before a number's first digit. proofs/Sentences.antt has it of `decimal` and `lastDigits`.
+-- What makes characters the digits of a number: what they say in base ten, read from the left, and that each is a digit.
+-- In decimal there is at least one, and no zero stands first where there are more: 0 is the one digit `0`.
+-- proofs/Sentences.antt has this of `decimal` and `lastDigits`.
 unfoldable pub readOn : ℕ → List ℕ → ℕ
 readOn n [] = n
 readOn n (d ∷ ds) = readOn (10 * n + (d - 48)) ds
@@ -53,4 +54,5 @@ pub record DigitsOf (n : ℕ) (ds : List ℕ) : Type 0 where
 
 pub record DecimalOf (n : ℕ) (ds : List ℕ) : Type 0 where
   pub says : DigitsOf n ds
-  pub no-zero-first : 0 < n → 48 < getD ds 0 0
+  pub some-digit : 0 < length ds
+  pub no-zero-first : 1 < length ds → 48 < getD ds 0 0

@@ -3,6 +3,7 @@ mod decimal;
 mod lines;
 mod page;
 
+use accuracy::BaseFlow;
 use accuracy::Choice;
 use accuracy::Separation;
 use filter::Setting;
@@ -52,6 +53,7 @@ fn choice() -> Choice
             method: 1,
             p: 9250,
             q: 0,
+            s: 0,
         },
         passes: 1,
     }
@@ -65,15 +67,18 @@ fn write_record(bytes: &[u8], text: &mut [u8]) -> usize
     let mut base: [u64; 2048] = [0; 2048];
     let separation = accuracy::separate(bytes, choice(), &mut days, &mut base);
     match separation {
-        Separation::Refused { stage: _, refusal } => refused_line(text, refusal),
+        Separation::ReadingRefused(refusal) => refused_line(text, refusal),
         Separation::Days {
             first_day,
             day_count,
-            totals,
-        } => {
-            let n = day_count as usize;
-            write_table(text, first_day, &days[..n], &base[..n], totals)
-        }
+            base_flow,
+        } => match base_flow {
+            BaseFlow::Refused(refusal) => refused_line(text, refusal),
+            BaseFlow::Found(totals) => {
+                let n = day_count as usize;
+                write_table(text, first_day, &days[..n], &base[..n], totals)
+            }
+        },
     }
 }
 

@@ -37,19 +37,28 @@ pub fn totals(days: &[u32], base: &[u64]) {
     show::end_of_line();
 }
 
-pub fn filter(method: u32, p: u32, q: u32, passes: u32, days: &[u32], base: &mut [u64]) {
-    show::named(b"filter", method as u64);
-    show::number(p as u64);
-    show::number(q as u64);
+pub fn filter(setting: Setting, passes: u32, days: &[u32], base: &mut [u64]) {
+    show::named(b"filter", setting.method as u64);
+    show::number(setting.p as u64);
+    show::number(setting.q as u64);
+    show::signed(setting.s);
     show::number(passes as u64);
-    let setting = Setting { method, p, q };
     let verdict = filter::filter(setting, passes, days, base);
     show::verdict(verdict);
     show::base_list(base);
 }
 
-pub fn filter_and_totals(method: u32, p: u32, q: u32, passes: u32, days: &[u32], base: &mut [u64]) {
-    filter(method, p, q, passes, days, base);
+// A setting without s.
+pub fn plain(method: u32, p: u32, q: u32) -> Setting {
+    signed(method, p, q, 0)
+}
+
+pub fn signed(method: u32, p: u32, q: u32, s: i32) -> Setting {
+    Setting { method, p, q, s }
+}
+
+pub fn filter_and_totals(setting: Setting, passes: u32, days: &[u32], base: &mut [u64]) {
+    filter(setting, passes, days, base);
     totals(days, base);
 }
 
@@ -107,17 +116,17 @@ fn state_after(step: Step) -> DailyFilter {
 }
 
 // Steps over a river from the fresh state: the check sum of their values is that of pass 1.
-pub fn steps(method: u32, p: u32, q: u32, days: &[u32]) {
+pub fn steps(setting: Setting, days: &[u32]) {
     let mut state = DailyFilter::fresh();
     let mut sum = 0;
     let mut i = 0;
     while i < days.len() {
-        let next = step(state, Setting { method, p, q }, days[i]);
+        let next = step(state, setting, days[i]);
         sum = stepped(sum, next);
         state = state_after(next);
         i += 1;
     }
-    show::named(b"steps", method as u64);
+    show::named(b"steps", setting.method as u64);
     show::number(sum);
     show::end_of_line();
 }

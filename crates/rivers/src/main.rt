@@ -8,17 +8,33 @@ mod river;
 mod show;
 
 fn passes(days: &[u32], base: &mut [u64]) {
-    calls::filter_and_totals(1, 9250, 0, 1, days, base);
-    calls::filter_and_totals(1, 9250, 0, 2, days, base);
-    calls::filter_and_totals(1, 9250, 0, 3, days, base);
+    calls::filter_and_totals(calls::plain(1, 9250, 0), 1, days, base);
+    calls::filter_and_totals(calls::plain(1, 9250, 0), 2, days, base);
+    calls::filter_and_totals(calls::plain(1, 9250, 0), 3, days, base);
 }
 
-fn other_methods(days: &[u32], base: &mut [u64]) {
-    calls::filter_and_totals(2, 9500, 0, 1, days, base);
-    calls::filter_and_totals(3, 9250, 0, 1, days, base);
-    calls::filter_and_totals(4, 9780, 500, 1, days, base);
-    calls::filter_and_totals(5, 9780, 8000, 1, days, base);
-    calls::filter_and_totals(6, 9250, 0, 1, days, base);
+fn two_to_four(days: &[u32], base: &mut [u64]) {
+    calls::filter_and_totals(calls::plain(2, 9500, 0), 1, days, base);
+    calls::filter_and_totals(calls::plain(3, 9250, 0), 1, days, base);
+    calls::filter_and_totals(calls::plain(4, 9780, 500), 1, days, base);
+}
+
+fn five_to_seven(days: &[u32], base: &mut [u64]) {
+    calls::filter_and_totals(calls::plain(5, 9780, 8000), 1, days, base);
+    calls::filter_and_totals(calls::plain(6, 9250, 0), 1, days, base);
+    calls::filter_and_totals(calls::signed(7, 9700, 300, -9999), 1, days, base);
+}
+
+fn all_methods(days: &[u32], base: &mut [u64]) {
+    passes(days, base);
+    two_to_four(days, base);
+    five_to_seven(days, base);
+}
+
+fn all_steps(days: &[u32]) {
+    calls::steps(calls::plain(1, 9250, 0), days);
+    calls::steps(calls::plain(5, 9780, 8000), days);
+    calls::steps(calls::signed(7, 9700, 300, -9999), days);
 }
 
 fn lines(days: &[u32], base: &mut [u64]) {
@@ -48,10 +64,8 @@ fn thirty_years(seed: u32, gaps: u32) {
     river::fill(&mut days, seed, gaps);
     show::named(b"thirty years", gaps as u64);
     show::day_list(&days);
-    passes(&days, &mut base);
-    other_methods(&days, &mut base);
-    calls::steps(1, 9250, 0, &days);
-    calls::steps(5, 9780, 8000, &days);
+    all_methods(&days, &mut base);
+    all_steps(&days);
     lines(&days, &mut base);
     all_limbs(&days);
 }
@@ -71,7 +85,7 @@ fn full_record() {
     let mut bytes = [0u8; 182635];
     river::fill(&mut days, 7, river::GAPS_EVERYWHERE);
     read_back(&mut bytes, &mut days);
-    calls::filter_and_totals(1, 9250, 0, 3, &days, &mut base);
+    calls::filter_and_totals(calls::plain(1, 9250, 0), 3, &days, &mut base);
     calls::line_and_totals(5, 9000, &days, &mut base);
 }
 
@@ -80,6 +94,7 @@ fn main() {
     thirty_years(2, river::GAP_AT_START);
     thirty_years(3, river::GAP_AT_END);
     thirty_years(4, river::GAPS_EVERYWHERE);
+    thirty_years(5, river::DRY_SUMMERS);
     full_record();
     refusals::of_entries();
     refusals::of_day_counts();

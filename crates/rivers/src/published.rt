@@ -28,7 +28,7 @@ fn steady_index(method: u32, p: u32, q: u32) {
     let mut days = [0u32; 10957];
     let mut base = [0u64; 10957];
     river::fall(&mut days, 1_000_000, 10_000, 0, 0);
-    calls::filter_and_totals(method, p, q, 1, &days, &mut base);
+    calls::filter_and_totals(calls::plain(method, p, q), 1, &days, &mut base);
 }
 
 // Source documents 000 and 002: BFImax 0.80, 0.50 and 0.25 with a 0.978; source documents 000 and 001: parameters 0.90,

@@ -1,7 +1,6 @@
 // Every refusal of document 01's table at least once.
 use crate::calls;
 use filter::DailyFilter;
-use filter::Setting;
 use filter::Yesterday;
 
 fn read(bytes: &[u8]) {
@@ -31,10 +30,12 @@ pub fn of_settings() {
     let days = [100u32, 200];
     let mut base = [7u64; 2];
     let mut limbs = [7u32; 2];
-    calls::filter(7, 9250, 0, 1, &days, &mut base);
-    calls::filter(2, 3333, 0, 1, &days, &mut base);
-    calls::filter(2, 9250, 0, 2, &days, &mut base);
-    calls::filter(2, 3334, 0, 1, &days, &mut base);
+    calls::filter(calls::plain(8, 9250, 0), 1, &days, &mut base);
+    calls::filter(calls::plain(2, 3333, 0), 1, &days, &mut base);
+    calls::filter(calls::signed(4, 9250, 500, 1), 1, &days, &mut base);
+    calls::filter(calls::signed(7, 9250, 500, -10_000), 1, &days, &mut base);
+    calls::filter(calls::plain(2, 9250, 0), 2, &days, &mut base);
+    calls::filter(calls::plain(2, 3334, 0), 1, &days, &mut base);
     calls::line(31, 9000, &days, &mut base);
     calls::line(5, 10_000, &days, &mut base);
     calls::ratios(1, &days, &mut limbs);
@@ -47,9 +48,9 @@ pub fn of_lists() {
     let days = [100u32, 10_000_001];
     let mut base = [7u64; 2];
     let mut short = [7u64; 1];
-    calls::filter(1, 9250, 0, 1, &long, &mut base);
-    calls::filter(1, 9250, 0, 1, &days, &mut short);
-    calls::filter(1, 9250, 0, 1, &days, &mut base);
+    calls::filter(calls::plain(1, 9250, 0), 1, &long, &mut base);
+    calls::filter(calls::plain(1, 9250, 0), 1, &days, &mut short);
+    calls::filter(calls::plain(1, 9250, 0), 1, &days, &mut base);
     calls::line(5, 9000, &days, &mut base);
     calls::totals(&days, &base);
 }
@@ -58,7 +59,7 @@ fn step_after(flow: u32, base: u64, method: u32, p: u32, day: u32) {
     let state = DailyFilter {
         yesterday: Yesterday::Known { flow, base },
     };
-    calls::step(state, Setting { method, p, q: 0 }, day);
+    calls::step(state, calls::plain(method, p, 0), day);
 }
 
 // 11, 12, 15, 10.

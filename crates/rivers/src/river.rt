@@ -14,6 +14,9 @@ pub const GAP_AT_END: u32 = 2;
 
 pub const GAPS_EVERYWHERE: u32 = 3;
 
+// No gaps, and no flow for a third of each year.
+pub const DRY_SUMMERS: u32 = 4;
+
 fn draw(x: u32) -> u32 {
     (((x as u64) * 1_664_525 + 1_013_904_223) % 4_294_967_296) as u32
 }
@@ -46,9 +49,19 @@ fn is_gap(gaps: u32, i: usize, days: usize, drawn: u32) -> bool {
     false
 }
 
-fn day_of(weather: Weather, missing: bool) -> u32 {
+fn is_dry(gaps: u32, i: usize) -> bool {
+    if gaps == DRY_SUMMERS {
+        return 240 <= i % 365;
+    }
+    false
+}
+
+fn day_of(weather: Weather, missing: bool, dry: bool) -> u32 {
     if missing {
         return series::MISSING;
+    }
+    if dry {
+        return 0;
     }
     weather.store / 16
 }
@@ -63,7 +76,11 @@ pub fn fill(days: &mut [u32], seed: u32, gaps: u32) {
     let mut i = 0;
     while i < days.len() {
         weather = day_after(weather);
-        days[i] = day_of(weather, is_gap(gaps, i, count, weather.drawn));
+        days[i] = day_of(
+            weather,
+            is_gap(gaps, i, count, weather.drawn),
+            is_dry(gaps, i),
+        );
         i += 1;
     }
 }

@@ -14,6 +14,17 @@ pub fn number(n: u64) {
     io::print_decimal(STDOUT_FILENO, n);
 }
 
+// A number of either sign.
+pub fn signed(s: i32) {
+    let below = numbers::below_zero(s);
+    if below == 0 {
+        number(numbers::above_zero(s));
+        return;
+    }
+    io::write_all(STDOUT_FILENO, b" -");
+    io::print_decimal(STDOUT_FILENO, below);
+}
+
 // Words and their number.
 pub fn named(words: &[u8], n: u64) {
     text(words);

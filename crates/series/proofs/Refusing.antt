@@ -184,6 +184,15 @@ module _ {A : Type 0} (cs : List Cause) where
   unfolding leaves
   leaves-accepted filled entry e = ap (λ o. byCause o (λ _. entry) filled) e
 
+  -- from its two cases
+  pub leaves-by : (filled entry : A) {left : A} → (firstCause cs ≡ none → left ≡ filled) → ((n : ℕ) → firstCause cs ≡ some n → left ≡ entry) → left ≡ leaves cs filled entry
+  unfolding leaves
+  leaves-by filled entry {left} accept refuse = by-cause (firstCause cs) accept refuse
+    where
+      by-cause : (o : Option ℕ) → (o ≡ none → left ≡ filled) → ((n : ℕ) → o ≡ some n → left ≡ entry) → left ≡ byCause o (λ _. entry) filled
+      by-cause none f g = f refl
+      by-cause (some n) f g = g n refl
+
 -- the same of a call whose check came to a verdict
 module _ {cs : List Cause} {v : Verdict} (d : Decides cs v) where
   pub decided-refused : {r : Refusal} → v ≡ Refused r → firstCause cs ≡ some (refusalNumber r)
@@ -204,6 +213,9 @@ module _ {cs : List Cause} {v : Verdict} (d : Decides cs v) where
 -- and back: an answer tells whether a cause holds
 pub never-both : {A : Type 0} {a : A} {n : ℕ} → refused n ≡ accepted a → ⊥
 never-both e = let z : _≡_ {A = ℕ} 0 1 = cc in omega arith
+
+pub same-values : {A : Type 0} {a b : A} → accepted a ≡ accepted b → a ≡ b
+same-values e = cc
 
 module _ {A : Type 0} (cs : List Cause) (a : A) where
   pub outcome-was-accepted : {b : A} → outcome cs a ≡ accepted b → (firstCause cs ≡ none) × (a ≡ b)

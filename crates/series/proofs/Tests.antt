@@ -11,6 +11,7 @@ use native.Mathlib.Nat.{min-eq-left, min-eq-right, le-of-lt, lt-of-not-le}
 use native.Mathlib.Decide.{decLe}
 use native.Mathlib.Omega.{arith}
 use lib.ListN.{length, getD, drop, replicate, drop-of-length-le}
+use lib.Dec.{ltb}
 use lib.Seq.{drop-cons}
 use borrow.Author.Tests.{ltb-false, le-ltb, eqb-true, eq-eqb, not-false}
 use Rattle.series.specs.Units.{dayLimit, missingMark, isInvalidDay, dayOf, baseOf}
@@ -21,6 +22,10 @@ use Rattle.series.proofs.Views.{valid-missing}
 pub few-days : (days : List ℕ) → tooLong days ≡ false → length days ≤ dayLimit
 unfolding tooLong
 few-days days e = ltb-false dayLimit (length days) e
+
+pub day-count-tested : (days : List ℕ) → ltb dayLimit (length days) ≡ tooLong days
+unfolding tooLong
+day-count-tested days = refl
 
 pub not-too-long : (days : List ℕ) → length days ≤ dayLimit → tooLong days ≡ false
 unfolding tooLong

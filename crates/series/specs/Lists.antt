@@ -7,20 +7,20 @@ use lib.ListN.{length}
 use lib.Dec.{ltb, eqb}
 use Rattle.series.specs.Units.{dayLimit, isInvalidDay, dayOf, baseOf}
 
--- 9: day list over 36,525 long
+-- 9: the day list has more than 36,525 days
 unfoldable pub tooLong : List ℕ → Bool
 tooLong days = ltb dayLimit (length days)
 
--- 14: base list and day list differ in length
+-- 14: the base list is not as long as the day list
 unfoldable pub lengthsDiffer : List ℕ → List ℕ → Bool
 lengthsDiffer days base = not (eqb (length days) (length base))
 
--- 10: a day neither flow nor missing
+-- 10: on some day there is neither a flow nor the mark of a missing day
 unfoldable pub anyInvalidDay : List ℕ → Bool
 anyInvalidDay [] = false
 anyInvalidDay (d ∷ ds) = isInvalidDay d || anyInvalidDay ds
 
--- base value on a missing day or above 1000 × the day's flow
+-- a base value where the day is missing, or one above 1000 × its flow
 unfoldable pub isInvalidBase : Option ℕ → Option ℕ → Bool
 isInvalidBase d none = false
 isInvalidBase none (some b) = true

@@ -20,8 +20,8 @@ unfolding joined
 joinsAt joins days zero = false
 joinsAt joins days (suc t) = joined joins (getD days t none) (getD days (suc t) none)
 
--- Document 01's sentence: from `start` on stand neighbouring present days, at least one, each of which joins the one before
--- it; and no day on either side could join them.
+-- What document 01 calls longest: from `start` on stand neighbouring present days, at least one, each of which joins the
+-- one before it; and neither the day before them nor the one behind them does.
 pub record Longest {A : Type 0} (joins : A → A → Bool) (days : List (Option A)) (start : ℕ) (run : List A) : Type 0 where
   pub not-empty : 0 < length run
   pub neighbouring : take (length run) (drop start days) ≡ map some run

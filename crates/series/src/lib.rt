@@ -17,49 +17,49 @@ pub const NO_VALUE: u64 = 18_446_744_073_709_551_615;
 
 // The rows of document 01's refusal table, in its order.
 pub enum Refusal {
-    // 1: bytes end inside a body or before an end entry
+    // 1: bytes that run out within a body, or before an end entry
     Truncated,
-    // 2: kind not 01, 02, 03, 04, 09
+    // 2: a kind that is none of 01, 02, 03, 04, 09
     UnknownKind,
-    // 3: first entry no head, or a later head
+    // 3: a first entry that is not a head, or a later one that is
     MisplacedHead,
-    // 4: value outside its range
+    // 4: an entry's value outside the range of its kind
     ValueOutOfRange,
-    // 5: over 36,525 days
+    // 5: a record of more than 36,525 days
     TooManyDays,
-    // 6: day list too short
+    // 6: no room in the day list for a record's days
     DayListTooShort,
-    // 7: end count wrong
+    // 7: an end entry that counts another number of days
     WrongEndCount,
-    // 8: bytes after the end
+    // 8: bytes behind the end entry
     BytesAfterEnd,
-    // 9: day list over 36,525 long
+    // 9: a day list of more than 36,525 days
     DayListTooLong,
-    // 10: a day neither flow nor missing
+    // 10: a number for a day that is neither a flow nor the mark of a missing day
     InvalidDay,
-    // 11: method not 1 to 6
+    // 11: a method that is not 1 to 7
     UnknownMethod,
-    // 12: p or q outside its range
+    // 12: p, q or s outside the range of its method
     ParameterOutOfRange,
-    // 13: passes not 1 to 3, or over 1 outside method 1
+    // 13: passes that are not 1, 2 or 3, or are 2 or 3 in another method than 1
     InvalidPasses,
-    // 14: base list and day list differ in length
+    // 14: a base list that is not as long as the day list
     LengthsDiffer,
-    // 15: state's flow over its limit, or base over 1000 × flow
+    // 15: a state whose flow is above 10,000,000, or whose base is above 1000 × that flow
     InvalidState,
-    // 16: N or g outside its range
+    // 16: block length N or factor g out of range
     LineSettingOutOfRange,
-    // 17: no stretch has two turning points
+    // 17: no segment with two or more turning points
     NoLine,
-    // 18: L outside its range
+    // 18: shortest limb L out of range
     LimbDaysOutOfRange,
-    // 19: no ratio
+    // 19: no ratio, since no limb counts
     NoRatio,
-    // 20: base value on a missing day or above 1000 × the day's flow
+    // 20: a base value on a missing day, or one above 1000 × the flow of its day
     InvalidBase,
-    // 21: Y is 0
+    // 21: a flow total Y of 0
     NoFlow,
-    // 22: limb list shorter than two per counted limb
+    // 22: a limb list without two numbers for each counted limb
     LimbListTooShort,
 }
 
@@ -154,7 +154,7 @@ pub fn any_invalid_day(days: &[u32]) -> bool
     invalid
 }
 
-// 20, of one day: a base value on a missing day, or above 1000 × the day's flow.
+// 20, of one day: it is missing and has a base value, or has one above 1000 × its flow.
 pub fn is_invalid_base(day: u32, base: u64) -> bool
     ensures { λ r. ⌜ r ≡ isInvalidBase (dayOf day) (baseOf base) ⌝ }
 {
@@ -167,7 +167,7 @@ pub fn is_invalid_base(day: u32, base: u64) -> bool
     1000 * (day as u64) < base
 }
 
-// 20: a base value on a missing day, or above 1000 × the day's flow.
+// 20: that on some day of two lists.
 pub fn any_invalid_base(days: &[u32], base: &[u64]) -> bool
     ensures { λ r. ⌜ r ≡ anyInvalidBase (now (days .entry)) (now (base .entry)) ⌝ }
 {

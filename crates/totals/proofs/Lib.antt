@@ -1,3 +1,5 @@
+mod Sentences
+mod Examples
 mod Summing
 pub mod Outcomes
 pub mod Distance

@@ -1,7 +1,7 @@
 -- The totals call by its causes: what it answers over lists that pass, and what an accepted answer says.
 -- Assumes nothing.
 use Prim.Native.Nat.{ℕ, _*_, _≤_, min}
-use mathlib.Core.Path.{_≡_, sym, _∙_, ap, subst}
+use mathlib.Core.Path.{_≡_, refl, sym, _∙_, ap, subst}
 use mathlib.Core.Bool.{false, true≢false}
 use mathlib.Core.List.{List}
 use mathlib.Core.Option.{none}
@@ -27,12 +27,12 @@ use Rattle.totals.specs.Private.{FoundIn, FoundInFront, Bounded, foundIn
 use Rattle.totals.proofs.Summing.{base-at-most}
 
 -- the index is at most one
-pub index-below : (b y : ℕ) → b ≤ 1000 * y → near (10 * b) y ≤ 10000
-index-below b y h = by-flow (ℕ-discrete y 0)
+pub index-below : (a y : ℕ) {r : ℕ} → r ≡ near a y → a ≤ 10000 * y → r ≤ 10000
+index-below a y {r} e h = by-flow (ℕ-discrete y 0)
   where
-    by-flow : Dec (y ≡ 0) → near (10 * b) y ≤ 10000
-    by-flow (yes e) = omega (arith, ap (near (10 * b)) e, near-by-zero (10 * b))
-    by-flow (no n) = near-at-most {n = 10000} (pos-of-ne-zero n) (omega arith)
+    by-flow : Dec (y ≡ 0) → r ≤ 10000
+    by-flow (yes z) = omega (arith, ap (near a) z, near-by-zero a)
+    by-flow (no n) = omega (arith, near-at-most {n = 10000} (pos-of-ne-zero n) h)
 
 -- the sums of valid lists overflow nothing
 pub bounded : (days base : List ℕ) (found : Found) → FoundIn days base found → Bounded found
@@ -85,4 +85,4 @@ module _ (days base : List ℕ) where
   unfolding totalsOutcome totalsCauses totalsOf index
   index-at-most {t} h =
       let r = outcome-was-accepted (totalsCauses days base) _ h in
-      subst (λ x. x .index ≤ 10000) (r .1) (index-below _ _ (base-at-most days base (passed (totalsCauses days base) (r .0) 20)))
+      subst (λ x. x .index ≤ 10000) (r .1) (index-below _ _ refl (omega (arith, base-at-most days base (passed (totalsCauses days base) (r .0) 20))))

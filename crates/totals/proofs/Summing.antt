@@ -30,7 +30,7 @@ module _ (d b : ℕ) where
   value-counted e = rw (base-value b e) (refl, refl)
 
   -- a base value other than the mark: the day is present
-  on-present-day : (b ≡ noValueMark → ⊥) → isInvalidBase (dayOf d) (baseOf b) ≡ false → d ≡ missingMark → ⊥
+  pub on-present-day : (b ≡ noValueMark → ⊥) → isInvalidBase (dayOf d) (baseOf b) ≡ false → d ≡ missingMark → ⊥
   on-present-day e h m = none-on-missing b (rw (base-value b e, day-missing d m) at h)
 
   pub present-counted : (b ≡ noValueMark → ⊥) → isInvalidBase (dayOf d) (baseOf b) ≡ false → d ≡ flowCounted (dayOf d) (baseOf b)

@@ -72,7 +72,7 @@ fn check(days: &[u32], base: &[u64], found: Found) -> Verdict
     refuse_if(v, has_no_flow(found), Refusal::NoFlow)
 }
 
-// 20: a base value on a missing day or above 1000 × the day's flow.
+// 20: a base value where the day is missing, or one above 1000 × its flow.
 fn has_invalid_base(found: Found) -> bool
     ensures { λ r. ⌜ r ≡ foundInvalid found ⌝ }
 {

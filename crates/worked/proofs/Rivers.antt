@@ -1,23 +1,24 @@
--- The rivers that document 01 works through and marks ◆: one list of checks on the rules, with one result over it,
--- computed by the checker.
+-- The rivers that document 01 works through and marks ◆, in one list, with one result over all of it; the checker computes
+-- them.
 -- Assumes nothing.
 use Prim.Native.Nat.{ℕ}
 use mathlib.Core.Path.{_≡_, refl}
 use mathlib.Core.Bool.{Bool, true, false, not, _&&_}
-use mathlib.Core.List.{List, [], _∷_, _++_}
+use mathlib.Core.List.{List, [], _∷_, _++_, map}
 use mathlib.Core.Option.{Option, none, some}
-use lib.IntN.{pos, _*ℤ_}
+use lib.IntN.{ℤ, pos, negsuc, _*ℤ_}
 use lib.Signed.{leZ}
 use lib.Dec.{eqb, lit<}
+use lib.ListN.{replicate}
 use Rattle.numbers.specs.Near.{near}
-use Rattle.numbers.specs.Fraction.{Fraction, whole, sum, multiple, quotient, least}
+use Rattle.numbers.specs.Fraction.{Fraction, whole, sum, opposite, difference, surplus, multiple, quotient, least}
 use Rattle.numbers.specs.Arithmetic.{rounded, exact, weighted}
-use Rattle.series.specs.Units.{isInvalidDay, dayOf, within}
-use Rattle.series.specs.Segments.{overSegments}
+use Rattle.series.specs.Units.{isInvalidDay, dayOf, baseOf, baseMark, within}
+use Rattle.series.specs.Segments.{parts, overSegments}
 use Rattle.series.specs.Causes.{firstCause, Outcome, accepted, refused}
-use Rattle.series.specs.Lists.{tooLong, lengthsDiffer, anyInvalidDay}
+use Rattle.series.specs.Lists.{tooLong, lengthsDiffer, anyInvalidDay, isInvalidBase, anyInvalidBase}
 use Rattle.filter.specs.declared.Setting.{Setting}
-use Rattle.filter.specs.Methods.{methodOf, weights, start, inRange, unknownMethod, outOfRange, invalidPasses}
+use Rattle.filter.specs.Methods.{methodOf, weights, start, spans, inRange, unknownMethod, outOfRange, invalidPasses}
 use Rattle.numbers.specs.Scan.{recursive}
 use Rattle.numbers.specs.Lists.{selected}
 use Rattle.numbers.specs.Order.{insertRising, rising, atRank}
@@ -26,10 +27,12 @@ use Rattle.filter.specs.Call.{filterCauses}
 use Rattle.filter.specs.Distance.{limitOf, filterLimit}
 use Rattle.minima.specs.Blocks.{blockStart, blockCount, block, lowest, earliest, minimumFlow, minimumDay}
 use Rattle.minima.specs.declared.LineSetting.{LineSetting}
-use Rattle.minima.specs.Call.{blocksOf}
+use Rattle.minima.specs.Call.{blocksOf, outOfRange as lineRange, hasTwo, anyOf, noLine, lineCauses}
 use Rattle.minima.specs.TurningPoints.{turns, middleTurns, counting, turningPoints, neighbours}
 use Rattle.minima.specs.Line.{straight, between as betweenPoints, lineOn, line, lineOver}
 use Rattle.totals.specs.Sums.{baseDays, flowTotal, baseTotal, index}
+use Rattle.totals.specs.declared.Totals.{Totals}
+use Rattle.totals.specs.Call.{noFlow, totalsCauses, totalsOutcome}
 use Rattle.series.specs.Runs.{joined, further, runsFrom}
 use Rattle.recession.specs.Limbs.{limbDay, limbDays, hasAtLeast, limbs, counted}
 use Rattle.recession.specs.Ratios.{pairRatios, limbRatios, median}
@@ -60,12 +63,20 @@ abbrev refuses : ℕ → Outcome Statistics → Bool
 refuses n (accepted s) = false
 refuses n (refused m) = eqb n m
 
+abbrev no-totals : Outcome Totals → Bool
+no-totals (accepted t) = false
+no-totals (refused n) = eqb n 21
+
 abbrev every : List Bool → Bool
 every [] = true
 every (b ∷ bs) = b && every bs
 
 abbrev setting : (method p q : ℕ) → Setting
-setting m p q = record { method = m; p = p; q = q }
+setting m p q = record { method = m; p = p; q = q; s = pos 0 }
+
+-- method 7, with an s of either sign
+abbrev seven : (p q : ℕ) → (s : ℤ) → Setting
+seven p q s = record { method = 7; p = p; q = q; s = s }
 
 abbrev level : List (Option ℕ)
 level = some 1 ∷ some 1 ∷ some 1 ∷ some 1 ∷ some 1 ∷ some 1 ∷ []
@@ -81,7 +92,7 @@ abbrev sixth : Fraction
 sixth = record { upper = pos 984375; lower = 1000; above-zero = lit< tt }
 
 filter-checks : List Bool
-unfolding whole sum multiple quotient least limitOf filtered overSegments methodOf weights start step recursive thousandths weighted near filterLimit filterCauses unknownMethod outOfRange inRange within invalidPasses tooLong lengthsDiffer anyInvalidDay isInvalidDay
+unfolding whole sum opposite difference surplus multiple quotient least limitOf filtered overSegments methodOf weights start step recursive thousandths weighted near filterLimit filterCauses unknownMethod outOfRange inRange spans within invalidPasses tooLong lengthsDiffer anyInvalidDay isInvalidDay
 filter-checks =
     -- method 1, p 9250, flows 100, 200, and flows 1000, 10
     same (filtered rounded (setting 1 9250 0) 1 (some 100 ∷ some 200 ∷ [])) (some 50000 ∷ some 57500 ∷ [])
@@ -95,6 +106,18 @@ filter-checks =
     -- method 2: p 3333 gives 12, 3334 passes
     ∷ sameValue (firstCause (filterCauses (setting 2 3333 0) 1 [] [])) (some 12)
     ∷ sameValue (firstCause (filterCauses (setting 2 3334 0) 1 [] [])) none
+    -- method 7, p 100, q 1000, s -5000, flows 1000, 2: the second day comes out below zero, and is 0 in both runs
+    ∷ same (filtered rounded (seven 100 1000 (negsuc 4999)) 1 (some 1000 ∷ some 2 ∷ [])) (some 500000 ∷ some 0 ∷ [])
+    ∷ equal (last (filtered exact (seven 100 1000 (negsuc 4999)) 1 (some 1000 ∷ some 2 ∷ [])) (whole 1)) (whole 0)
+    -- s up to 9999 either way in method 7, with one pass; 0 in the others; and no method 8
+    ∷ sameValue (firstCause (filterCauses (seven 9999 10000 (pos 9999)) 1 [] [])) none
+    ∷ sameValue (firstCause (filterCauses (seven 1 1 (negsuc 9998)) 1 [] [])) none
+    ∷ sameValue (firstCause (filterCauses (seven 1 1 (pos 10000)) 1 [] [])) (some 12)
+    ∷ sameValue (firstCause (filterCauses (seven 1 1 (negsuc 9999)) 1 [] [])) (some 12)
+    ∷ sameValue (firstCause (filterCauses (seven 1 1 (pos 1)) 2 [] [])) (some 13)
+    ∷ sameValue (firstCause (filterCauses (record { method = 1; p = 9250; q = 0; s = pos 1 }) 1 [] [])) (some 12)
+    ∷ sameValue (firstCause (filterCauses (record { method = 4; p = 9250; q = 500; s = negsuc 0 }) 1 [] [])) (some 12)
+    ∷ sameValue (firstCause (filterCauses (setting 8 9250 0) 1 [] [])) (some 11)
     ∷ []
 
 -- flows 10, 8, 10, 20, 9, 30
@@ -117,6 +140,40 @@ line-checks =
     ∷ turns 9000 10 10 10
     ∷ []
 
+-- rivers that dry up: the line of blocks of n days at g 9000
+abbrev dryLine : (n : ℕ) → List ℕ → List (Option ℕ)
+dryLine n flows = lineOver rounded (blocksOf (record { «block_days» = n; factor = 9000 })) (map some flows)
+
+-- five days of flow, five without, and fifteen of flow that dip to 8
+abbrev dryBlock : List ℕ
+dryBlock =
+    12 ∷ 11 ∷ 10 ∷ 13 ∷ 14 ∷ 0 ∷ 0 ∷ 0 ∷ 0 ∷ 0 ∷ 15 ∷ 10 ∷ 12 ∷ 11 ∷ 13 ∷ 9 ∷ 8 ∷ 8 ∷ 9 ∷ 10 ∷ 10 ∷ 12 ∷ 13 ∷ 14 ∷ 15 ∷ []
+
+abbrev noValues : ℕ → List (Option ℕ)
+noValues n = replicate n none
+
+abbrev zeroDays : List ℕ
+zeroDays = 0 ∷ 0 ∷ 0 ∷ 0 ∷ 0 ∷ []
+
+dry-checks : List Bool
+unfolding blockStart blockCount block lowest earliest minimumFlow minimumDay turns middleTurns counting selected turningPoints neighbours straight betweenPoints lineOn line lineOver overSegments parts near baseDays flowTotal baseTotal index dayOf baseOf baseMark lineCauses lineRange noLine hasTwo anyOf within tooLong lengthsDiffer anyInvalidDay isInvalidDay anyInvalidBase isInvalidBase totalsOutcome totalsCauses noFlow
+dry-checks =
+    -- N 1, flows 5, 0, 0, 0, 5: each dry day turns, and the line is 0 on them
+    same (map some (turningPoints (blocksOf line-setting) (5 ∷ 0 ∷ 0 ∷ 0 ∷ 5 ∷ []))) (some 1 ∷ some 2 ∷ some 3 ∷ [])
+    ∷ same (dryLine 1 (5 ∷ 0 ∷ 0 ∷ 0 ∷ 5 ∷ [])) (none ∷ some 0 ∷ some 0 ∷ some 0 ∷ none ∷ [])
+    -- N 1, flows 3, 0, 4, 6, 0, 5: from one dry day to the other
+    ∷ same (dryLine 1 (3 ∷ 0 ∷ 4 ∷ 6 ∷ 0 ∷ 5 ∷ [])) (none ∷ some 0 ∷ some 0 ∷ some 0 ∷ some 0 ∷ none ∷ [])
+    -- N 5, a dry block between wet ones: from its first day up to the next turning point, and no higher than the flow
+    ∷ same (dryLine 5 dryBlock)
+    (noValues 5
+    ++ some 0 ∷ some 0 ∷ some 0 ∷ some 0 ∷ some 0 ∷ some 3636 ∷ some 4364 ∷ some 5091 ∷ some 5818 ∷ some 6545 ∷ some 7273 ∷ some 8000 ∷ noValues 8)
+    -- no flow on any day: a line of 0, and no totals
+    ∷ same (dryLine 1 zeroDays) (none ∷ some 0 ∷ some 0 ∷ some 0 ∷ none ∷ [])
+    ∷ no-totals (totalsOutcome zeroDays (map baseMark (dryLine 1 zeroDays)))
+    -- two dry blocks alone have none between two others: 17
+    ∷ sameValue (firstCause (lineCauses line-setting (0 ∷ 0 ∷ []) (0 ∷ 0 ∷ []))) (some 17)
+    ∷ []
+
 ratio-checks : List Bool
 unfolding ratioOutcome ratioCauses within tooLong anyInvalidDay isInvalidDay noRatio limbListTooShort countedLimbs countedRatios counted limbs runsFrom further joined selected hasAtLeast limbDays limbDay dayOf limbRatios pairRatios near median atRank rising insertRising
 ratio-checks =
@@ -126,6 +183,6 @@ ratio-checks =
     ∷ answers 2 5000 (ratioOutcome 3 (100 ∷ 50 ∷ 40 ∷ []) (0 ∷ 0 ∷ []))
     ∷ []
 
-rivers : every (filter-checks ++ line-checks ++ ratio-checks) ≡ true
-unfolding filter-checks line-checks ratio-checks
+rivers : every (filter-checks ++ line-checks ++ dry-checks ++ ratio-checks) ≡ true
+unfolding filter-checks line-checks dry-checks ratio-checks
 rivers = refl

@@ -8,7 +8,7 @@ use lib.Seq.{length-take-le}
 use borrow.Author.Needs.{needs}
 use denote.Ref.{now}
 use Rattle.series.specs.Causes.{refusalOf}
-use Rattle.accuracy.proofs.OneRun.{over-refused, lent-again, over-accepted}
+use Rattle.accuracy.proofs.OneRun.{left-in-base, over-refused, lent-again, over-accepted}
 use Rattle.accuracy.proofs.over_days.Statement.{statement}
 use Rattle.accuracy.proofs.over_days.Tie as tie
 
@@ -32,20 +32,22 @@ returns : tie.Need-returns
 returns c =
     let k = c .before .before .before in
     let s = start (lent k) .args in
-    over-refused (s .choice) (s .first-day) (now (s .days)) (now (s .base)) (lent k .least .ensures) (sym (ap refusalOf (c .before .verdict .given .1)) ∙ called k .base-flow .ensures .0) (called k .base-flow .ensures .1)
+    let left = left-in-base (s .choice) (now (s .days)) (now (s .base)) (lent k .least .ensures) (called k .base-flow .ensures .1) in
+    (over-refused (s .choice) (now (s .days)) (now (s .base)) (lent k .least .ensures) (called k .base-flow .ensures .1) (sym (ap refusalOf (c .before .verdict .given .1)) ∙ called k .base-flow .ensures .0), left)
 
 slice-aggregate-total : tie.Need-slice-aggregate-total
 slice-aggregate-total c =
     let k = c .before .before .before in
     let s = start (lent k) .args in
-    lent-again (s .choice) (s .first-day) (now (s .days)) (now (s .base)) (lent k .least .ensures) (called k .base-flow .last .1 .1 .0) (called k .base-flow .kept .1 .1 .0)
+    lent-again (s .choice) (now (s .days)) (now (s .base)) (lent k .least .ensures) (called k .base-flow .ensures .1) (called k .base-flow .kept .1 .1 .0)
 
 returns-2 : tie.Need-returns-2
 returns-2 c =
     let k = c .before .before .before .before in
     let f = called k .base-flow in
-    let s = start (lent k) in
-    over-accepted (s .args .choice) (s .args .first-day) (now (s .args .days)) (now (s .args .base)) (lent k .least .ensures) (s .pre) (sym (ap refusalOf (c .before .before .enum-told .given .1)) ∙ f .ensures .0) (f .ensures .1) (f .kept .1 .1 .0) (c .total .ensures)
+    let s = start (lent k) .args in
+    let found = over-accepted (s .choice) (now (s .days)) (now (s .base)) (lent k .least .ensures) (f .ensures .1) (f .kept .1 .1 .0) (sym (ap refusalOf (c .before .before .enum-told .given .1)) ∙ f .ensures .0) (c .total .ensures) in
+    (found, left-in-base (s .choice) (now (s .days)) (now (s .base)) (lent k .least .ensures) (f .ensures .1))
 
 pub over-days-spec : {M : Type 1} → statement M
 over-days-spec =

@@ -2,7 +2,6 @@
 -- carries demand 3.
 -- Assumes nothing.
 use Prim.Native.Nat.{_≤_}
-use mathlib.Core.List.{List}
 use mathlib.Core.Path.{_≡_, sym, _∙_, ap}
 use lib.ListN.{length}
 use lib.Seq.{length-take-le}
@@ -46,5 +45,5 @@ separate-spec =
     tie.close
     (tie.spec (λ c κs. search needs) (λ c. search needs) (λ c. search needs) (λ c. search needs) (λ c. fits (c .before))
     (λ c. sym (length-take-le _ _ (fits (c .before .before))))
-    (λ c κs. sym (length-take-le _ _ (fits (c .before .before .before)))) (λ c. search needs) returns
+    (λ c κs. search needs) (λ c. search needs) returns
     (λ c. search needs) (λ c. search needs) returns-2)

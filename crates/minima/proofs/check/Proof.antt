@@ -9,7 +9,8 @@ use Rattle.minima.proofs.check.Tie as tie
 returns : tie.Need-returns
 unfolding lineCauses
 returns c =
-    decides-next (rw (c .before .before .blocks-of .ensures) at (c .before .no-line .ensures)) (c .refuse-if5 .ensures) (let c = c .before .before .before in
+    let s = c .before .before .before .before .before .before .before .before .before .before .before .before in
+    decides-next (s .pre .none) (c .refuse-if5 .ensures) (let c = c .before .before in
     decides-next (c .before .any-invalid-day .ensures) (c .refuse-if4 .ensures) (let c = c .before .before in
     decides-next (c .before .lengths-differ .ensures) (c .refuse-if3 .ensures) (let c = c .before .before in
     decides-next (c .before .too-long .ensures) (c .refuse-if2 .ensures) (let c = c .before .before in
@@ -20,4 +21,4 @@ check-spec =
     tie.close
     (tie.spec (λ c κs. search needs) (λ c κs. search needs) (λ c κs. search needs) (λ c κs. search needs)
     (λ c κs. search needs) (λ c κs. search needs) (λ c κs. search needs) (λ c κs. search needs) (λ c κs. search needs)
-    (λ c κs. search needs) (λ c κs. search needs) returns)
+    returns)

@@ -3,6 +3,7 @@
 -- Assumes nothing.
 use Prim.Native.Nat.{_*_, _≤_}
 use mathlib.Core.Path.{_≡_, refl}
+use native.Mathlib.Nat.{pos-of-ne-zero}
 use native.Mathlib.Omega.{arith}
 use borrow.Author.Needs.{needs}
 use lib.ListN.{length, replicate}
@@ -10,7 +11,7 @@ use denote.Ref.{now}
 use Rattle.series.proofs.Refusing.{answer-refused, decided-accepted}
 use Rattle.recession.specs.Call.{ratioOutcome}
 use Rattle.recession.specs.Private.{limbsFrom, Tallied}
-use Rattle.recession.proofs.Outcomes.{all-zero, Checked, checked, out-refused, out-list, ratios-fit, limbs-fit, sized, rank-found, entries-fit, passed-both, all-decided, out-ratios}
+use Rattle.recession.proofs.Outcomes.{all-zero, Checked, checked, out-refused, out-list, ratios-fit, limbs-fit, sized, counted-all, entries-fit, passed-both, all-decided, out-ratios}
 use Rattle.recession.proofs.ratios.Statement.{statement}
 use Rattle.recession.proofs.ratios.Tie as tie
 
@@ -63,7 +64,8 @@ at-rank-requires c κs =
     let l = listed (c .before) in
     let t = found l in
     let k = ok (passed t) in
-    (sized k _ (tallied t), rank-found k _ (tallied t) (both l .0))
+    let some-ratio = pos-of-ne-zero (both l .0) in
+    (sized k _ (tallied t), omega (arith, some-ratio, counted-all k _ (tallied t), few (c .before)))
 
 returns-3 : tie.Need-returns-3
 returns-3 c =

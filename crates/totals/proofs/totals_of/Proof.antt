@@ -7,9 +7,7 @@ use Rattle.totals.proofs.totals_of.Statement.{statement}
 use Rattle.totals.proofs.totals_of.Tie as tie
 
 cast-t5 : tie.Need-cast-t5
-cast-t5 c =
-    let s = c .before .before .before in
-    omega (arith, c .near .ensures, index-below (s .args .t .base) (s .args .t .flow) (s .pre .1))
+cast-t5 c = omega (arith, index-below _ _ (c .near .ensures) (omega (arith, c .before .before .before .pre .1)))
 
 returns : tie.Need-returns
 returns c = rw (c .before .before .quick-total .ensures, c .near .ensures)

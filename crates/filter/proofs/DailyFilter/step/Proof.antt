@@ -5,29 +5,54 @@ use mathlib.Core.Option.{none}
 use mathlib.Core.Path.{_≡_, sym, _∙_}
 use borrow.Author.Needs.{needs}
 use Rattle.series.proofs.Refusing.{decided-refused, decided-accepted}
-use Rattle.series.specs.Causes.{firstCause, accepted}
+use Rattle.series.specs.Causes.{firstCause, accepted, Decides}
 use Rattle.series.specs.Units.{dayOf}
-use Rattle.filter.proofs.Calls.{step-accepted, hands-back, hands-on}
+use Rattle.filter.proofs.Calls.{step-accepted, unknown-first, range-first, decides-step, hands-back, hands-on}
 use Rattle.filter.proofs.Days.{value-shown}
 use Rattle.filter.specs.Call.{stepCauses}
+use Rattle.filter.specs.Methods.{Usable}
 use Rattle.filter.proofs.DailyFilter.step.Statement.{statement}
 use Rattle.filter.proofs.DailyFilter.step.Tie as tie
 
-abbrev entry : tie.After-enum-told → tie.Start
-entry c = c .before .before .before
+-- behind the tests of the setting
+abbrev entry : tie.Else2 → tie.Start
+entry c = c .before .before .before .before
 
-no-cause : (c : tie.After-enum-told) → firstCause (stepCauses (entry c .args .setting) (entry c .args .self) (entry c .args .day)) ≡ none
-no-cause c = decided-accepted (c .before .before .check-step .ensures) (c .enum-told .given .1)
+usable : (c : tie.Else2) → Usable (entry c .args .setting)
+usable c =
+    let u = c .before .before in
+    record { known = sym (u .before .unknown-method .ensures) ∙ u .if1 .left; in-range = sym (c .before .out-of-range .ensures) ∙ c .if2 .left }
 
-advance-requires : tie.Need-advance-requires
-advance-requires c κs =
-    let a = step-accepted _ _ _ (no-cause (c .before)) in
-    (a .usable, (c .table-row .ensures, (a .valid-state, a .valid-day)))
+-- and of the state and the day
+abbrev in-use : tie.After-check-state → tie.Else2
+in-use c = c .before .before
+
+decided : (c : tie.After-check-state) → let s = entry (in-use c) .args in Decides (stepCauses (s .setting) (s .self) (s .day)) (c .check-state .result)
+decided c = decides-step _ _ _ (usable (in-use c)) (c .check-state .ensures)
+
+no-cause : (c : tie.After-enum-told) → let s = entry (in-use (c .before .before)) .args in firstCause (stepCauses (s .setting) (s .self) (s .day)) ≡ none
+no-cause c = decided-accepted (decided (c .before .before)) (c .enum-told .given .1)
+
+returns : tie.Need-returns
+returns c = sym (hands-back _ _ _ (unknown-first _ _ _ (sym (c .before .unknown-method .ensures) ∙ c .if1 .taken)))
 
 returns-2 : tie.Need-returns-2
 returns-2 c =
-    let e = c .before .before .before in
-    let s = entry e .args in
+    let u = c .before .before in
+    sym (hands-back _ _ _ (range-first _ _ _ (sym (u .before .unknown-method .ensures) ∙ u .if1 .left) (sym (c .before .out-of-range .ensures) ∙ c .if2 .taken)))
+
+returns-3 : tie.Need-returns-3
+returns-3 c = sym (hands-back _ _ _ (decided-refused (decided (c .before .before .before)) (c .before .verdict .given .1)))
+
+advance-requires : tie.Need-advance-requires
+advance-requires c κs =
+    let a = step-accepted _ _ _ (no-cause c) in
+    (a .usable, (c .before .before .before .table-row .ensures, (a .valid-state, a .valid-day)))
+
+returns-4 : tie.Need-returns-4
+returns-4 c =
+    let e = c .before .before in
+    let s = entry (in-use (e .before .before)) .args in
     let r = c .before .advance .ensures in
     (λ i. record { outcome = accepted (value-shown (s .setting) (s .self) (dayOf (s .day)) (r .0 .0) (r .0 .1) (r .1 .0) i); state = r .0 .0 i })
     ∙ sym (hands-on (s .setting) (s .self) (s .day) (no-cause e))
@@ -35,6 +60,5 @@ returns-2 c =
 pub step-spec : {M : Type 1} → statement M
 step-spec =
     tie.close
-    (tie.spec (λ c κs. search needs) (λ c. search needs)
-    (λ c. sym (hands-back _ _ _ (decided-refused (c .before .before .before .check-step .ensures) (c .before .verdict .given .1))))
-    (λ c. search needs) (λ c κs. step-accepted _ _ _ (no-cause c) .usable) advance-requires returns-2)
+    (tie.spec (λ c κs. search needs) returns (λ c κs. search needs) returns-2 (λ c κs. usable c) (λ c κs. search needs)
+    (λ c. search needs) returns-3 (λ c. search needs) advance-requires returns-4)

@@ -10,7 +10,7 @@ smoothed-requires : tie.Need-smoothed-requires
 smoothed-requires c κs =
     let p = c .before .before .before .pre .1 in
     let v = valid-yesterday (c .before .yesterday .given .1) (p .1 .0) in
-    (p .0 .1, (omega arith, omega (arith, p .1 .1), omega arith))
+    (p .0 .1, omega (arith, p .1 .1))
 
 pub day-base-spec : {M : Type 1} → statement M
 day-base-spec =

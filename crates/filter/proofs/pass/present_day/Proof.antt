@@ -1,5 +1,6 @@
 -- `filter::pass::present_day` meets its contract.
 -- Assumes nothing.
+use native.Mathlib.Omega.{arith}
 use borrow.Author.Needs.{needs}
 use Rattle.filter.proofs.Turns.{small-day, starts, goes-on}
 use Rattle.filter.proofs.pass.present_day.Statement.{statement}
@@ -9,7 +10,7 @@ smoothed-requires : tie.Need-smoothed-requires
 smoothed-requires c κs =
     let p = c .before .before .before .pre in
     let h = small-day (c .before .previous .given .1) (p .1 .0) in
-    (p .0, (h .1, p .1 .1, h .0))
+    (p .0, omega (arith, h, p .1 .1))
 
 pub present-day-spec : {M : Type 1} → statement M
 present-day-spec =

@@ -1,74 +1,83 @@
--- `minima::segment::draw` meets its contract: before i the base list is done.
+-- `minima::segment::draw` meets its contract: before t the base list is done.
 -- Assumes nothing.
-use Prim.Native.Nat.{_-_, _<_}
+use Prim.Native.Nat.{_-_, _≤_}
 use mathlib.Core.Path.{_≡_}
 use native.Mathlib.Omega.{arith}
 use lib.ListN.{length}
 use denote.Ref.{now}
-use Rattle.minima.proofs.AllSegments.{givenBack, SoFar, start-drawing, lent, back-length, gap-next, list-done, all-drawn}
+use Rattle.minima.specs.Private.{LinedAt}
+use Rattle.minima.proofs.SegmentLine.{filled-to}
+use Rattle.minima.proofs.AllSegments.{SoFar, start-drawing, not-empty, lent, draw-next, all-drawn, apart-behind}
 use Rattle.minima.proofs.segment.draw.Statement.{statement}
 use Rattle.minima.proofs.segment.draw.Tie as tie
 
 abbrev Inv-loop : tie.InvT-loop
-Inv-loop blocks days base₀ i₀ base i = SoFar blocks days base₀ base i
+Inv-loop blocks days base₀ t₀ at₀ base t at = SoFar blocks days base₀ base t at
 
 abbrev μ-loop : tie.MeasureT-loop
-μ-loop blocks days base₀ i₀ base i = length days - i
+μ-loop blocks days base₀ t₀ at₀ base t at = length days - t
 
--- places: the function's entry, the loop's test, where the turn's segment ends, and where it is drawn
+-- places: the function's entry, the loop's test, and where a turn has made the days before its segment blank
 abbrev entry : tie.At-loop Inv-loop μ-loop → tie.Start Inv-loop μ-loop
 entry l = l .before .before .before
 
-abbrev ended : tie.After-draw-segment Inv-loop μ-loop → tie.After-segment-end Inv-loop μ-loop
-ended c = c .before .before .before
+abbrev at : tie.Then1 Inv-loop μ-loop → tie.At-loop Inv-loop μ-loop
+at t = t .before .before
 
-abbrev drawn : tie.Else1 Inv-loop μ-loop → tie.After-draw-segment Inv-loop μ-loop
-drawn c = c .before .before .before
+abbrev turn : tie.After-slice-known2 Inv-loop μ-loop → tie.Then1 Inv-loop μ-loop
+turn c = c .before .before .before .before
 
--- the base list after a segment's line is as long as it was
-drawn-length : (c : tie.After-draw-segment Inv-loop μ-loop) → length (givenBack (ended c .before .before .loop .i) (ended c .segment-end .result) (ended c .before .before .loop .base) (c .draw-segment .last .1 .1 .0)) ≡ length (now (entry (ended c .before .before) .args .base))
-drawn-length c =
-    let e = ended c in
-    let l = e .before .before in
-    back-length _ _ (l .loop .i) _ (e .segment-end .ensures) (entry l .pre .1) (l .loop .inv) (c .draw-segment .ensures)
+abbrev blanked : tie.After-slice-known3 Inv-loop μ-loop → tie.After-slice-known2 Inv-loop μ-loop
+blanked c = c .before .before .before .before .before
 
--- the segment does not end the list
-gap : (c : tie.Else1 Inv-loop μ-loop) → ended (drawn c) .segment-end .result < length (now (entry (ended (drawn c) .before .before) .args .days))
-gap c = omega (arith, c .if1 .left, ended (drawn c) .segment-end .ensures .segment .inside)
+-- a turn's segment
+segment : (t : tie.Then1 Inv-loop μ-loop) → LinedAt (entry (at t) .args .blocks) (now (entry (at t) .args .days)) (at t .loop .at)
+segment t = at t .loop .inv .next .there (t .if1 .taken)
 
-part-draw-segment-end-2 : tie.Need-part-draw-segment-end-2 Inv-loop μ-loop
-part-draw-segment-end-2 c =
-    let l = c .before .before .before in
-    omega (arith, c .before .segment-end .ensures .segment .inside, l .loop .inv .same-length, entry l .pre .1)
+fits : (t : tie.Then1 Inv-loop μ-loop) → (at t .loop .at .from ≤ at t .loop .at .end) × (at t .loop .at .end ≤ length (at t .loop .base)) × (at t .loop .at .end ≤ 36525)
+fits t =
+    let s = segment t .segment .segment in
+    let p = entry (at t) .pre .0 in
+    (s .forward, omega (arith, s .inside, at t .loop .inv .same-length, p .1), omega (arith, s .inside, p .0))
 
 draw-segment-requires : tie.Need-draw-segment-requires Inv-loop μ-loop
 draw-segment-requires c κs =
-    let e = c .before .before in
-    lent _ _ (e .before .before .loop .i) _ (e .segment-end .ensures) (entry (e .before .before) .pre) (e .before .before .loop .inv)
+    let b = c .before .before .before .before in
+    let t = b .before .before in
+    let s = entry (at t) .pre .0 in
+    (lent _ _ _ (s .1) (at t .loop .inv) (b .blank .ensures) (t .if1 .taken) (s .0), (segment t .points, t .if1 .taken))
 
-returns : tie.Need-returns Inv-loop μ-loop
-returns c =
-    let d = c .before .before .before in
-    let e = ended d in
-    let l = e .before .before in
-    list-done _ _ (l .loop .i) _ (e .segment-end .ensures) (entry l .pre .1) (l .loop .inv) (d .draw-segment .ensures) (omega (arith, c .if1 .taken))
+loop-less : tie.Need-loop-less Inv-loop μ-loop
+loop-less c =
+    let b = blanked (c .before) .before .before in
+    let t = b .before .before in
+    omega (arith, not-empty _ _ _ (entry (at t) .pre .0 .1) (at t .loop .inv) (b .blank .ensures) (t .if1 .taken), at t .loop .inv .next .onward, segment t .segment .segment .inside)
 
 loop-again : tie.Need-loop-again Inv-loop μ-loop
 loop-again c =
-    let e = ended (drawn c) in
-    let l = e .before .before in
-    gap-next _ _ (l .loop .i) _ (e .segment-end .ensures) (entry l .pre .1) (l .loop .inv) (drawn c .draw-segment .ensures) (gap c)
+    let b = blanked (c .before) .before .before in
+    let t = b .before .before in
+    draw-next _ _ _ (entry (at t) .pre .0 .1) (at t .loop .inv) (b .blank .ensures) (t .if1 .taken) (c .before .before .before .draw-segment .ensures) (c .next-lined .ensures)
+
+same-length : tie.Need-same-length Inv-loop μ-loop
+same-length c = let b = c .before .before in omega (arith, b .blank2 .ensures .same-length, b .before .before .before .before .loop .inv .same-length)
+
+returns : tie.Need-returns Inv-loop μ-loop
+returns c =
+    let b = c .before .before in
+    let o = b .before .before in
+    let l = o .before .before in
+    let none : l .loop .at .points .second .block ≡ 0 = omega (arith, o .if1 .left) in
+    all-drawn _ _ _ (entry l .pre .0 .1) (l .loop .inv) (filled-to _ _ (b .blank2 .ensures) (omega (arith, l .loop .inv .next .nowhere none))) none
 
 pub draw-spec : {M : Type 1} → statement M
 draw-spec =
     tie.close
-    (tie.spec Inv-loop μ-loop (λ c. start-drawing _ _ _) (λ c κs. omega arith) (λ c. omega arith)
-    (λ c. c .segment-end .ensures .segment .forward) (λ c. c .segment-end .ensures .segment .forward)
-    (λ c. c .segment-end .ensures .segment .inside) (λ c. omega arith)
-    (λ c. c .before .segment-end .ensures .segment .forward) (λ c. c .before .segment-end .ensures .segment .forward)
-    part-draw-segment-end-2 draw-segment-requires (λ c. drawn-length (c .before .before .before)) returns
-    (λ c. omega (arith, gap c, entry (ended (drawn c) .before .before) .pre .0))
-    (λ c. omega (arith, gap c, drawn-length (drawn c), entry (ended (drawn c) .before .before) .pre .1))
-    (λ c. omega (arith, gap c)) (λ c. omega (arith, gap c, ended (drawn c) .segment-end .ensures .segment .forward))
-    loop-again (λ c. c .before .loop .inv .same-length)
-    (λ c. all-drawn _ _ (entry (c .before) .pre .1) (c .loop-test .left) (c .before .loop .inv)))
+    (tie.spec Inv-loop μ-loop (λ c. start-drawing _ (c .before .before .pre .1))
+    (λ c κs. omega (arith, fits (c .before))) (λ c. omega (arith, fits (turn c))) (λ c. fits (turn c) .0) (λ c. fits (turn c) .0)
+    (λ c. segment (turn c) .segment .segment .inside) (λ c. omega (arith, fits (turn (c .before)))) (λ c. fits (turn (c .before)) .0)
+    (λ c. fits (turn (c .before)) .0)
+    (λ c. omega (arith, fits (turn (c .before)), c .before .before .before .blank .ensures .same-length))
+    draw-segment-requires (λ c κs. apart-behind _ _ (segment (turn (blanked c)))) loop-less loop-again
+    (λ c κs. let l = c .before .before .before in omega (arith, l .loop .inv .same-length, entry l .pre .0 .1))
+    same-length returns)
