@@ -16,7 +16,7 @@
 enum { RUNS = 25, RUN_NANOSECONDS = 4000000, STACK = 1 << 18, PAINT = 0xc3, SIZES = 3, MOST = BASEFLOW_MOST_DAYS };
 static const uint32_t sizes[SIZES] = {1000, 10000, MOST};
 
-enum input { FLOWS, GAPS, MIXED, LATE, SUMMERS };
+enum input { FLOWS, GAPS, MIXED, LATE, SUMMERS, LENGTHS, TWOS };
 enum call { READ, FILTER, STEP, LINE, TOTALS, RECESSION };
 
 static const struct job {
@@ -47,6 +47,8 @@ static const struct job {
     {"totals, many gaps", TOTALS, MIXED, 0, 0, 0, 0, 0},
     {"recession, L 2", RECESSION, GAPS, 2, 0, 0, 0, 0},
     {"recession, L 5", RECESSION, GAPS, 5, 0, 0, 0, 0},
+    {"recession, all lengths", RECESSION, LENGTHS, 2, 0, 0, 0, 0},
+    {"recession, 18,000 limbs", RECESSION, TWOS, 2, 0, 0, 0, 0},
 };
 enum { JOBS = sizeof jobs / sizeof *jobs };
 
@@ -87,18 +89,49 @@ static uint32_t late_flow(uint32_t t, uint32_t size)
     return t + 20 == size || t + 8 == size ? flow / 2 : flow;
 }
 
-// A river of storms and recessions (or one whose line comes late, or one that is dry for a third of each year), its record,
-// and base flow for the totals.
+// One limb of each length from 2 days up, as far as they fit, in no order; then days without a fall.
+static void lay_lengths(uint32_t *flows, uint32_t size)
+{
+    static uint32_t lengths[MOST];
+    uint32_t limbs = 0, at = 0;
+    for (uint32_t room = size; limbs + 2 <= room; limbs++) {
+        uint32_t other = below(limbs + 1);
+        room -= limbs + 2;
+        lengths[limbs] = lengths[other];
+        lengths[other] = limbs + 2;
+    }
+    for (uint32_t i = 0; i < limbs; i++)
+        for (uint32_t left = lengths[i]; left > 0; left--)
+            flows[at++] = 900 + 10 * left;
+    while (at < size)
+        flows[at++] = 910;
+}
+
+// Two days a limb: every second flow is high.
+static uint32_t two_day_flow(uint32_t t)
+{
+    return t % 2 == 0 ? 1000 + below(1000) : 100 + below(800);
+}
+
+// A river of storms and recessions (or one whose line comes late, one that is dry for a third of each year, or one of
+// limbs of chosen lengths), its record, and base flow for the totals.
 static void prepare(enum input input, uint32_t size)
 {
+    static uint32_t laid[MOST];
     uint32_t flow = 900;
     state = 1900;
     count = size;
     bytes_len = 0;
     put(BASEFLOW_HEAD, 0, 4);
+    if (input == LENGTHS)
+        lay_lengths(laid, size);
     for (uint32_t t = 0; t < size; t++) {
         if (input == LATE)
             flow = late_flow(t, size);
+        else if (input == LENGTHS)
+            flow = laid[t];
+        else if (input == TWOS)
+            flow = two_day_flow(t);
         else
             flow = below(10) == 0 ? flow + below(4000) : flow - flow / 32;
         int missing = input == MIXED ? below(2) == 0 : input == GAPS && below(50) == 0;
@@ -164,17 +197,8 @@ static void run_reference(const struct job *job)
     PERFORM(reference_, job, &reference_result);
 }
 
-// The order of the limbs is free.
-static int by_place(const void *a, const void *b)
-{
-    uint32_t left = *(const uint32_t *)a, right = *(const uint32_t *)b;
-    return (left > right) - (left < right);
-}
-
 static void check(const struct job *job)
 {
-    qsort(engine_result.limbs, MOST / 2, 2 * sizeof(uint32_t), by_place);
-    qsort(reference_result.limbs, MOST / 2, 2 * sizeof(uint32_t), by_place);
     if (engine_result.answer != 0 || memcmp(&engine_result, &reference_result, sizeof engine_result) != 0) {
         fprintf(stderr, "bench: %s: the engine refuses, or gives another result than the reference\n", job->name);
         exit(1);

@@ -168,6 +168,18 @@
     X(RECESSION_ODD, "recession", "accepted, odd k")                                                                   \
     X(RECESSION_EVEN, "recession", "accepted, even k")                                                                 \
     X(RECESSION_LIMBS, "recession", "accepted, several limbs")                                                         \
+    X(RECESSION_EQUAL, "recession", "accepted, limbs of equal length")                                                 \
+    X(RECESSION_ALL_EQUAL, "recession", "accepted, over 2 limbs, all of equal length")                                 \
+    X(RECESSION_TWICE, "recession", "accepted, every length twice")                                                    \
+    X(RECESSION_LONGER, "recession", "accepted, a longer limb behind a shorter one")                                   \
+    X(RECESSION_LONGER_255, "recession", "accepted, longer limb behind one over 255 days")                             \
+    X(RECESSION_RISING, "recession", "accepted, over 2 limbs, each longer than before")                                \
+    X(RECESSION_FALLING, "recession", "accepted, over 2 lengths, found in order")                                      \
+    X(RECESSION_LENGTHS, "recession", "accepted, over 100 lengths")                                                    \
+    X(RECESSION_MOST_LENGTHS, "recession", "accepted, 268 lengths, the most there are")                                \
+    X(RECESSION_MANY, "recession", "accepted, over 18,000 limbs")                                                      \
+    X(RECESSION_MOST_LIMBS, "recession", "accepted, 18,262 limbs, the most there are")                                 \
+    X(RECESSION_LONGEST, "recession", "accepted, a limb of 36,525 days")                                               \
     X(RECESSION_EXACT, "recession", "accepted, a limb of L days")                                                      \
     X(RECESSION_PASSED, "recession", "accepted, a shorter limb passed over")                                           \
     X(RECESSION_GAP, "recession", "accepted, a fall through a gap")                                                    \
@@ -550,16 +562,41 @@ static void count_totals(const struct test_case *c, uint32_t answer, const struc
 
 // ---- recession
 
+// Notes the length of the next counted limb; `before` is that of the one before, 0 for none.
+static void view_length(struct limb_view *view, size_t length, size_t before)
+{
+    static struct {
+        uint64_t turn, times; // the last river that had this length, and how many of its limbs
+    } seen[ROOM_DAYS + 1];
+    static uint64_t turn;
+    turn += before == 0;
+    if (seen[length].turn != turn)
+        seen[length].times = 0;
+    seen[length].turn = turn;
+    seen[length].times++;
+    view->lengths += seen[length].times == 1;
+    view->twice += seen[length].times == 2;
+    view->twice -= seen[length].times == 3;
+    view->most = length > view->most ? length : view->most;
+    view->rises += before != 0 && length > before;
+    view->long_rises += before > 255 && length > before;
+}
+
 struct limb_view view_limbs(const struct test_case *c)
 {
     struct limb_view view = {0};
+    size_t before = 0;
     for (size_t start = 0, end; start < c->days_len; start = end) {
         for (end = start + 1; end < c->days_len && c->days[end] < c->days[end - 1] && c->days[start] != MISSING;)
             end++;
         size_t length = end - start;
         if (length < 2)
             continue;
-        view.counted += length >= c->limb_days;
+        if (length >= c->limb_days) {
+            view.counted++;
+            view_length(&view, length, before);
+            before = length;
+        }
         view.exact += length == c->limb_days;
         view.shorter += length < c->limb_days;
         view.at_gap += end + 1 < c->days_len && c->days[end] == MISSING && c->days[end + 1] < c->days[end - 1];
@@ -592,6 +629,18 @@ static void count_recession(const struct test_case *c, uint32_t answer, const st
     default:
         hit(outs->small[0] % 2 == 1 ? RECESSION_ODD : RECESSION_EVEN);
         hit_if(view.counted > 1, RECESSION_LIMBS);
+        hit_if(view.lengths < view.counted, RECESSION_EQUAL);
+        hit_if(view.lengths == 1 && view.counted > 2, RECESSION_ALL_EQUAL);
+        hit_if(view.lengths > 1 && view.twice == view.lengths, RECESSION_TWICE);
+        hit_if(view.rises > 0, RECESSION_LONGER);
+        hit_if(view.long_rises > 0, RECESSION_LONGER_255);
+        hit_if(view.counted > 2 && view.rises == view.counted - 1, RECESSION_RISING);
+        hit_if(view.lengths > 2 && view.rises == 0, RECESSION_FALLING);
+        hit_if(view.lengths > 100, RECESSION_LENGTHS);
+        hit_if(view.lengths == 268, RECESSION_MOST_LENGTHS);
+        hit_if(view.counted > 18000, RECESSION_MANY);
+        hit_if(view.counted == MOST_DAYS / 2, RECESSION_MOST_LIMBS);
+        hit_if(view.most == MOST_DAYS, RECESSION_LONGEST);
         hit_if(view.exact > 0, RECESSION_EXACT);
         hit_if(view.shorter > 0, RECESSION_PASSED);
         hit_if(view.at_gap > 0, RECESSION_GAP);

@@ -128,12 +128,6 @@ static void catch_signals(void)
         sigaction(numbers[i], &action, NULL);
 }
 
-static int by_place(const void *a, const void *b)
-{
-    uint32_t left = *(const uint32_t *)a, right = *(const uint32_t *)b;
-    return (left > right) - (left < right);
-}
-
 static void run(struct side *side, const struct test_case *c)
 {
     for (enum list list = 0; list < LISTS; list++) {
@@ -145,11 +139,6 @@ static void run(struct side *side, const struct test_case *c)
     side->outs = c->outs;
     running = side;
     side->answer = side->call(c, side->lists, side->outs.small, side->outs.large);
-    if (c->call == RECESSION && side->answer == 0) { // the order of the limbs is free
-        size_t limbs = view_limbs(c).counted;
-        if (2 * limbs <= c->limbs_len)
-            qsort(side->lists[LIMBS], limbs, 2 * sizeof(uint32_t), by_place);
-    }
 }
 
 // ---- comparing

@@ -41,6 +41,8 @@ struct test_case {
 // The counted limbs of a case of RECESSION, and what else is seen on the way.
 struct limb_view {
     size_t counted, exact, shorter, at_gap;
+    size_t lengths, twice;          // different lengths of counted limbs, and those that exactly two of them have
+    size_t most, rises, long_rises; // the most days of one; one longer than the one before, and both over 255 days
 };
 struct limb_view view_limbs(const struct test_case *c);
 

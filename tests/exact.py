@@ -206,6 +206,7 @@ def worked_rivers(engine):
         ("two dry blocks alone", refused(engine.line, 1, 9000, [0, 0])[0], 17),
         ("L 3", engine.recession(3, [100, 90, 81]), (2, 9000, [(0, 3)])),
         ("L 4", refused(engine.recession, 4, [100, 90, 81])[0], 19),
+        ("the longest limb first", engine.recession(2, [9, 8, 9, 8, 7, 9, 8]), (4, 8889, [(2, 3), (0, 2), (5, 2)])),
         ("lower middle", engine.recession(3, [100, 50, 40]), (2, 5000, [(0, 3)])),
         ("zero days", engine.read(bytes.fromhex("01 00000000 09 00000000")), (0, [])),
         ("no bytes", refused(engine.read, b"")[0], 1),

@@ -1,6 +1,6 @@
 // The generator of the differential runs. It aims at the edges of document 01: limits and their neighbours, marks,
-// ties, falls through gaps, dry spells, full lists, lists of different lengths, and records damaged by cutting, flipping and
-// inserting.
+// ties, falls through gaps, dry spells, limbs of chosen lengths, full lists, lists of different lengths, and records
+// damaged by cutting, flipping and inserting.
 #include <string.h>
 
 #include "differential.h"
@@ -83,6 +83,13 @@ static uint32_t flow_of(uint32_t style, uint32_t before)
     }
 }
 
+static void spoil_day(struct test_case *c)
+{
+    if (c->days_len > 0 && spoil())
+        c->days[one_in(3) ? c->days_len - 1 : below((uint32_t)c->days_len)] =
+            AMONG(MOST_FLOW + 1, MISSING - 1, MOST_FLOW + 2, 0x80000000, 0x7fffffff);
+}
+
 static void fill_days(struct test_case *c)
 {
     uint32_t style = below(STYLES), gaps = below(6), flow = below(one_in(4) ? MOST_FLOW + 1 : 300);
@@ -98,9 +105,59 @@ static void fill_days(struct test_case *c)
         c->days[c->days_len - 1] = MISSING;
     if (gaps == 4 && one_in(20))
         memset(c->days, 0xff, c->days_len * sizeof *c->days);
-    if (c->days_len > 0 && spoil())
-        c->days[one_in(3) ? c->days_len - 1 : below((uint32_t)c->days_len)] =
-            AMONG(MOST_FLOW + 1, MISSING - 1, MOST_FLOW + 2, 0x80000000, 0x7fffffff);
+    spoil_day(c);
+}
+
+// How the lengths of limbs go on: all alike, each a day longer than the one before, the same backwards, each length
+// once or twice in any order, few lengths at random, or one limb for all days.
+enum { ALIKE, RISING, FALLING, ONCE, TWICE, FEW, WHOLE, ORDERS };
+
+static void swap(uint32_t *a, uint32_t *b)
+{
+    uint32_t old = *a;
+    *a = *b;
+    *b = old;
+}
+
+// Draws the lengths of limbs that fill up to `room` days, and gives their number.
+static uint32_t draw_lengths(uint32_t *lengths, uint32_t room)
+{
+    uint32_t order = below(ORDERS), most = room < 900 ? 2 + room / 3 : 302, count = 0;
+    uint32_t least = order == WHOLE ? room : one_in(3) ? between(2, most) : 2;
+    const uint32_t few[] = {2, between(2, most), between(2, most), between(2, most)};
+    for (uint32_t length = least; 2 <= length && length <= room;) {
+        room -= length;
+        lengths[count++] = length;
+        if (order == FEW)
+            length = few[below(4)];
+        else
+            length += order == TWICE ? count % 2 == 0 : order != ALIKE;
+    }
+    for (uint32_t i = 0; i < count / 2 && order == FALLING; i++)
+        swap(&lengths[i], &lengths[count - 1 - i]);
+    for (uint32_t i = count; i > 1 && (order == ONCE || order == TWICE); i--)
+        swap(&lengths[i - 1], &lengths[below(i)]);
+    return count;
+}
+
+// Limbs one behind the other, with or without a gap here and there. Each ends with the same flow, below any first one.
+static void fill_limbs(struct test_case *c)
+{
+    static uint32_t lengths[ROOM_DAYS];
+    uint32_t low = below(5), step = between(1, 200);
+    int gaps = one_in(4);
+    c->days_len = one_in(200) ? MOST_DAYS : day_list_length();
+    uint32_t count = draw_lengths(lengths, (uint32_t)c->days_len);
+    size_t t = 0;
+    for (uint32_t i = 0; i < count; i++) {
+        if (gaps && one_in(5) && t < c->days_len)
+            c->days[t++] = MISSING;
+        for (uint32_t left = lengths[i]; left > 0 && t < c->days_len; left--)
+            c->days[t++] = low + step * (left - 1);
+    }
+    while (t < c->days_len)
+        c->days[t++] = low;
+    spoil_day(c);
 }
 
 static size_t other_length(size_t length)
@@ -213,7 +270,10 @@ static void make_recession(struct test_case *c)
     c->limb_days = spoil() ? AMONG(0, 1, 61, 62, MISSING) : one_in(8) ? between(2, 60) : between(2, 5);
     if (one_in(40))
         c->limb_days = 60;
-    fill_days(c);
+    if (one_in(3))
+        fill_limbs(c);
+    else
+        fill_days(c);
     size_t enough = 2 * view_limbs(c).counted;
     c->limbs_len = one_in(3) ? enough : one_in(2) ? enough + below(4) : one_in(2) ? below(40) : c->days_len;
     if (spoil() && enough > 0)

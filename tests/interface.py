@@ -103,12 +103,12 @@ class Engine:
         return m.value, flow.value, slow.value, quick.value, index.value
 
     def recession(self, limb_days, days):
-        """The number of ratios, the middle one, and the counted limbs in rising order."""
+        """The number of ratios, the middle one, and the counted limbs as they are listed."""
         limbs = listed(ctypes.c_uint32, [0] * len(days))
         count, ratio = ctypes.c_uint32(), ctypes.c_uint32()
         self.call("recession", ctypes.c_uint32(limb_days), day_list(days), size(days), limbs, size(days),
                   ctypes.byref(count), ctypes.byref(ratio))
-        return count.value, ratio.value, sorted(pair for pair in zip(limbs[::2], limbs[1::2]) if pair != (0, 0))
+        return count.value, ratio.value, [pair for pair in zip(limbs[::2], limbs[1::2]) if pair != (0, 0)]
 
 
 def setting(method, p, q, s):

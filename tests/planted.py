@@ -16,6 +16,12 @@ SUM = "w->a * f + w->b * u + (uint64_t)w->c * u_before"
 AT_ZERO = "sum < 0 ? 0 : smaller(u, near((uint64_t)sum, w->d))"
 S_TEST = "method == 7 ? s < -9999 || s > 9999 : s != 0"
 NEXT_DAY = "f = next(&w, f, u, u_before); base[t] = f;"
+BY_DAY_COUNT = ("if (left->day_count != right->day_count) "
+                "return left->day_count > right->day_count ? -1 : 1;")
+BY_FIRST_DAY = "(left->first_day > right->first_day) - (left->first_day < right->first_day)"
+SORT = "qsort(found, limb_count, sizeof *found, by_list_order);"
+LIMBS_TEST = "if (limbs_len < 2 * limb_count)"
+MEDIAN = "uint32_t place = 0, below = counts[0];"
 
 FAULTS = (
     ("halves go down", "(a + b / 2) / b", "(a + (b - 1) / 2) / b"),
@@ -69,9 +75,25 @@ FAULTS = (
     ("base equal to flow is refused", "|| base[t] > 1000", "|| base[t] >= 1000"),
     ("equal days fall", "days[at] < days[at - 1]", "days[at] <= days[at - 1]"),
     ("the upper of two middle ratios", "(k + 1) / 2", "(k / 2 + 1)"),
-    ("a limb's number of days is one short", "*limbs++ = (uint32_t)(end - start);",
-     "*limbs++ = (uint32_t)(end - start - 1);"),
-    ("k is written before 22", "if (limbs_len < 2 * limb_count)", "*ratio_count = k; if (limbs_len < 2 * limb_count)"),
+    ("a limb's number of days is one short", "*limbs++ = found[i].day_count;", "*limbs++ = found[i].day_count - 1;"),
+    ("the shortest limb first", "left->day_count > right->day_count ? -1 : 1",
+     "left->day_count > right->day_count ? 1 : -1"),
+    ("the latest of equally long limbs first", BY_FIRST_DAY,
+     "(left->first_day < right->first_day) - (left->first_day > right->first_day)"),
+    ("limbs in the order of their first days", "if (left->day_count != right->day_count)", "if (0)"),
+    ("limbs of 255 days and more are one length", BY_DAY_COUNT,
+     "uint64_t a_days = smaller(left->day_count, 255), b_days = smaller(right->day_count, 255); "
+     "if (a_days != b_days) return a_days > b_days ? -1 : 1;"),
+    ("a limb of more than 269 days is lost", "found[limb_count++]", "if (end - start <= 269) found[limb_count++]"),
+    ("only neighbouring limbs change places", SORT,
+     "for (size_t i = 1; i < limb_count; i++) if (by_list_order(&found[i - 1], &found[i]) > 0) "
+     "{ struct limb later = found[i]; found[i] = found[i - 1]; found[i - 1] = later; }"),
+    ("only the first 256 limbs are put in order", "qsort(found, limb_count,", "qsort(found, smaller(limb_count, 256),"),
+    ("a limb is written in another's place", "= found[i].first_day;", "= found[i == 1 ? 0 : i].first_day;"),
+    ("the rest of the limb list is cleared", MEDIAN,
+     f"for (size_t i = 2 * limb_count; i < limbs_len; i++) *limbs++ = 0; {MEDIAN}"),
+    ("limbs are written before 22", LIMBS_TEST, f"if (limbs_len > 0) *limbs = found[0].first_day; {LIMBS_TEST}"),
+    ("k is written before 22", LIMBS_TEST, f"*ratio_count = k; {LIMBS_TEST}"),
 )
 
 

@@ -159,8 +159,7 @@ def show_totals(days, base):
 
 def show_ratios(limb_days, days, limbs):
     result = ratios_call(limb_days, days, limbs)
-    total = sum(mixed(a, b) for a, b in zip(limbs[::2], limbs[1::2])) % MODULUS
-    out.append(words('ratios', limb_days) + answer(result, 'found') + words(', limbs', total))
+    out.append(words('ratios', limb_days) + answer(result, 'found') + words(', limbs', check_sum(limbs)))
     return result
 
 

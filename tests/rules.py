@@ -177,7 +177,8 @@ def totals(days, base):
 
 # "Recession ratios": 6.1 to 6.6
 def counted_limbs(limb_days, days):
-    """The first place and the flows of each limb that counts."""
+    """The first place and the flows of each limb that counts, in the order of the limb list: one with more days before
+    any with fewer, and of two with the same number of days the one that begins earlier."""
     counted = []
     for start, flows in stretches(days):
         first = 0
@@ -186,7 +187,7 @@ def counted_limbs(limb_days, days):
                 if t - first >= max(2, limb_days):
                     counted.append((start + first, flows[first:t]))
                 first = t
-    return counted
+    return sorted(counted, key=lambda limb: (-len(limb[1]), limb[0]))
 
 
 def ratios(limbs):

@@ -13,7 +13,7 @@ ghost use Rattle.record.specs.Call.{reading, replyOf, readLeaves};
 ghost use Rattle.filter.specs.Call.{filterCauses, filterLeaves, stepRule};
 ghost use Rattle.minima.specs.Call.{lineCauses, lineLeaves};
 ghost use Rattle.totals.specs.Call.{totalsOutcome};
-ghost use Rattle.recession.specs.Call.{countedLimbs, ratioOutcome, LimbList};
+ghost use Rattle.recession.specs.Call.{ratioOutcome, ratioLeaves};
 ghost use Rattle.baseflow.specs.Interface.{returned, returnedCause, handedOut, settingOf, lineSettingOf, stateOf, stateNumbers, valueOut, stateOut};
 
 // 0 for an accepted call, else the number of its refusal.
@@ -113,7 +113,7 @@ pub extern "C" fn baseflow_totals(
     }
 }
 
-// Recession ratios of a day list, with every counted limb listed.
+// Recession ratios of a day list, with every counted limb listed, the longest first.
 #[no_mangle]
 pub extern "C" fn baseflow_recession(
     limb_days: u32,
@@ -123,7 +123,7 @@ pub extern "C" fn baseflow_recession(
     ratio: &mut u32,
 ) -> u32
     ensures { λ r. ⌜ r ≡ returned (ratioOutcome «limb_days» (now (days .entry)) (now (limbs .entry))) ⌝ }
-    ensures { λ _. ⌜ LimbList (ratioOutcome «limb_days» (now (days .entry)) (now (limbs .entry))) (countedLimbs «limb_days» (now (days .entry))) (now (limbs .entry)) (now (limbs .exit)) ⌝ }
+    ensures { λ _. ⌜ now (limbs .exit) ≡ ratioLeaves «limb_days» (now (days .entry)) (now (limbs .entry)) ⌝ }
     ensures { λ _. ⌜ now («ratio_count» .exit) ≡ handedOut (λ s. s .count) (ratioOutcome «limb_days» (now (days .entry)) (now (limbs .entry))) (now («ratio_count» .entry)) ⌝ }
     ensures { λ _. ⌜ now (ratio .exit) ≡ handedOut (λ s. s .median) (ratioOutcome «limb_days» (now (days .entry)) (now (limbs .entry))) (now (ratio .entry)) ⌝ }
 {

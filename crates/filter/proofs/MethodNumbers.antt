@@ -14,7 +14,6 @@ use Rattle.numbers.specs.Arithmetic.{rounded, Weights, weighted}
 use Rattle.numbers.specs.Near.{near}
 use Rattle.numbers.proofs.Whole.{up-of-multiple, down-of-multiple}
 use Rattle.numbers.proofs.Quantities.{weighted-rounded}
-use Rattle.series.specs.Units.{within}
 use Rattle.filter.specs.declared.Setting.{Setting}
 use Rattle.filter.specs.Methods.{Method, lyne-hollick, chapman-1991, chapman-maxwell, boughton, eckhardt, tularam-ilahee, jakeman-hornberger, methodOf, methodWeights, weights, methodRange, methodSpan, spans, inRange, methodStart, start, outOfRange, Usable}
 use Rattle.filter.specs.Passes.{step}

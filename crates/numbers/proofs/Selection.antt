@@ -3,12 +3,12 @@
 use Prim.Native.Nat.{suc, _≤_}
 use mathlib.Core.Path.{_≡_, refl, sym, _∙_, ap}
 use mathlib.Core.Bool.{Bool, true, false, cond, false≢true}
-use mathlib.Core.List.{List, [], _∷_, map, List·Memᴰ, List·Memᴰ·head, List·Memᴰ·tail, List·Memᴰ·not-nil, List·Memᴰ·cases-cons, Memᴰ·cast, Memᴰ·map, Memᴰ·of-map, List·Nodup, nodup-cons}
-use mathlib.Core.HLevel.{⊥-prop}
-use mathlib.Core.Logic.{⊎-elim, ∥∥₁-elim}
+use mathlib.Core.List.{List, [], _∷_, List·Memᴰ, List·Memᴰ·head, List·Memᴰ·tail, List·Memᴰ·not-nil, List·Memᴰ·cases-cons}
+use mathlib.Core.Logic.{⊎-elim}
 use native.Mathlib.Omega.{arith}
 use lib.ListN.{length}
 use Rattle.numbers.specs.Lists.{selected}
+use Rattle.numbers.proofs.Sorting.{All, all-members, members-all, InOrder, order-end, order-next}
 
 module _ {A : Type 0} (test : A → Bool) where
   pub selected-none : selected test [] ≡ []
@@ -51,17 +51,17 @@ module _ {A : Type 0} (test : A → Bool) where
       by-test true n = List·Memᴰ·tail n
       by-test false n = n
 
-  -- what is there once stays so
-  pub selected-once : {B : Type 0} (f : A → B) (xs : List A) → List·Nodup (map f xs) → List·Nodup (map f (selected test xs))
-  unfolding selected
-  selected-once f [] n = n
-  selected-once f (y ∷ ys) n = by-test (test y) (selected-once f ys (nodup-cons .0 n .1))
-    where
-      still-there : List·Memᴰ (f y) (map f (selected test ys)) → List·Memᴰ (f y) (map f ys)
-      still-there d = let r = Memᴰ·of-map f (selected test ys) d in Memᴰ·cast (sym (r .2)) (Memᴰ·map f (selected-from ys (r .1) .0))
+  -- what holds of all holds of these, and so does what holds of any two
+  pub selected-all : {P : A → Type 0} {xs : List A} → All P xs → All P (selected test xs)
+  selected-all {xs = xs} a = all-members (selected test xs) (λ x m. members-all a (selected-from xs m .0))
 
-      by-test : (b : Bool) → List·Nodup (map f (selected test ys)) → List·Nodup (map f (cond b (y ∷ selected test ys) (selected test ys)))
-      by-test true r = nodup-cons .1 ((λ m. ∥∥₁-elim m ⊥-prop (λ d. nodup-cons .0 n .0 ∣ still-there d ∣₁)), r)
+  pub selected-in-order : {R : A → A → Type 0} {xs : List A} → InOrder R xs → InOrder R (selected test xs)
+  unfolding selected
+  selected-in-order order-end = order-end
+  selected-in-order {R} (order-next {x} {l} a o) = by-test (test x) (selected-in-order o)
+    where
+      by-test : (b : Bool) → InOrder R (selected test l) → InOrder R (cond b (x ∷ selected test l) (selected test l))
+      by-test true r = order-next (selected-all a) r
       by-test false r = r
 
 -- a test that lets fewer pass, after one that lets them pass

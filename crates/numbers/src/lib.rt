@@ -1,6 +1,6 @@
-// Rounding to the nearest whole number, document 01's near; the smaller of two lengths; the parts of a number of either sign.
+// Rounding to the nearest whole number, document 01's near; the smaller and the larger of two lengths; the parts of a number of either sign.
 ghost use mathlib.Core.Path.{_≡_};
-ghost use Prim.Native.Nat.{_+_, _-_, _≤_, _<_, min};
+ghost use Prim.Native.Nat.{_+_, _-_, _≤_, _<_, min, max};
 ghost use Rattle.numbers.specs.Near.{near};
 ghost use Rattle.numbers.specs.Whole.{up, down};
 
@@ -49,6 +49,12 @@ pub fn least(a: usize, b: usize) -> usize
     ensures { λ r. ⌜ r ≡ min a b ⌝ }
 {
     if a < b { a } else { b }
+}
+
+pub fn most(a: usize, b: usize) -> usize
+    ensures { λ r. ⌜ r ≡ max a b ⌝ }
+{
+    if a < b { b } else { a }
 }
 
 // The part of a number above zero, and the part below zero: no other function computes with a sign.

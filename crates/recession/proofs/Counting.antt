@@ -37,16 +37,16 @@ many-few v (x ∷ l) = go (eqb x v) (many-few v l)
     go true h = omega arith
     go false h = omega arith
 
-many-here : (v : ℕ) (l : List ℕ) → howMany v (v ∷ l) ≡ suc (howMany v l)
+pub many-here : (v : ℕ) (l : List ℕ) → howMany v (v ∷ l) ≡ suc (howMany v l)
 unfolding howMany
 many-here v l = rw (eq-eqb v v refl)
 
-many-elsewhere : {v x : ℕ} (l : List ℕ) → (x ≡ v → ⊥) → howMany v (x ∷ l) ≡ howMany v l
+pub many-elsewhere : {v x : ℕ} (l : List ℕ) → (x ≡ v → ⊥) → howMany v (x ∷ l) ≡ howMany v l
 unfolding howMany
 many-elsewhere {v} {x} l n = rw (ne-eqb x v n)
 
 -- one count more
-counted-one : (counts : List ℕ) (r : ℕ) (l : List ℕ) (v : ℕ) → r < length counts
+pub counted-one : (counts : List ℕ) (r : ℕ) (l : List ℕ) (v : ℕ) → r < length counts
     → getD (set counts r (getD counts r 0 + 1)) v 0 + howMany v l ≡ getD counts v 0 + howMany v (r ∷ l)
 counted-one counts r l v h = go (ℕ-discrete r v)
   where

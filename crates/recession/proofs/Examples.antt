@@ -8,29 +8,30 @@ use Rattle.numbers.specs.Lists.{selected}
 use Rattle.numbers.specs.Order.{insertRising, rising, atRank}
 use Rattle.series.specs.Units.{missingMark, isInvalidDay, dayOf, within}
 use Rattle.series.specs.Lists.{tooLong, anyInvalidDay}
-use Rattle.series.specs.Causes.{Outcome, accepted, refused}
+use Rattle.series.specs.Causes.{Outcome, accepted, refused, leaves}
 use Rattle.series.specs.Runs.{joined, further, runsFrom}
-use Rattle.recession.specs.Limbs.{limbDay, limbDays, hasAtLeast, limbs, counted}
+use Rattle.recession.specs.Limbs.{limbDay, limbDays, hasAtLeast, limbs, counted, precedes, longestFirst, entries}
 use Rattle.recession.specs.Ratios.{pairRatios, limbRatios, median}
-use Rattle.recession.specs.Call.{noRatio, limbListTooShort, countedLimbs, countedRatios, ratioCauses, Statistics, ratioOutcome, LimbEntry, limbEntry}
+use Rattle.recession.specs.Call.{noRatio, limbListTooShort, countedLimbs, countedRatios, ratioCauses, Statistics, ratioOutcome, listedLimbs, ratioLeaves}
 
--- a river: L, the days, the limb list; the answer, and the counted limbs
+-- a river: L, the days, the limb list; the answer, and the limb list at exit
 record River : Type 0 where
   L : ℕ
   days : List ℕ
   list : List ℕ
   answer : Outcome Statistics
-  listed : List LimbEntry
+  exit : List ℕ
 
 abbrev values : ℕ → ℕ → Outcome Statistics
 values k r = accepted (record { count = k; median = r })
 
-abbrev entry : ℕ → ℕ → LimbEntry
-entry start days = record { start = start; days = days }
-
 -- room for two limbs
 abbrev room : List ℕ
 room = 7 ∷ 7 ∷ 7 ∷ 7 ∷ []
+
+-- and for three, with one number more
+abbrev room6 : List ℕ
+room6 = 7 ∷ 7 ∷ 7 ∷ 7 ∷ 7 ∷ 7 ∷ 7 ∷ []
 
 abbrev gap : ℕ
 gap = missingMark
@@ -38,42 +39,47 @@ gap = missingMark
 abbrev rivers : List River
 rivers =
     -- the ratios in no order; k odd, and k even: the lower of the two in the middle
-    record { L = 2; days = 100 ∷ 90 ∷ 45 ∷ 36 ∷ []; list = room; answer = values 3 8000; listed = entry 0 4 ∷ [] }
-    ∷ record { L = 2; days = 100 ∷ 90 ∷ 45 ∷ 36 ∷ 9 ∷ []; list = room; answer = values 4 5000; listed = entry 0 5 ∷ [] }
+    record { L = 2; days = 100 ∷ 90 ∷ 45 ∷ 36 ∷ []; list = room; answer = values 3 8000; exit = 0 ∷ 4 ∷ 7 ∷ 7 ∷ [] }
+    ∷ record { L = 2; days = 100 ∷ 90 ∷ 45 ∷ 36 ∷ 9 ∷ []; list = room; answer = values 4 5000; exit = 0 ∷ 5 ∷ 7 ∷ 7 ∷ [] }
     -- equal neighbours part a fall
-    ∷ record { L = 2; days = 100 ∷ 90 ∷ 90 ∷ 81 ∷ []; list = room; answer = values 2 9000; listed = entry 0 2 ∷ entry 2 2 ∷ [] }
-    ∷ record { L = 2; days = 90 ∷ 90 ∷ []; list = room; answer = refused 19; listed = [] }
+    ∷ record { L = 2; days = 100 ∷ 90 ∷ 90 ∷ 81 ∷ []; list = room; answer = values 2 9000; exit = 0 ∷ 2 ∷ 2 ∷ 2 ∷ [] }
+    ∷ record { L = 2; days = 90 ∷ 90 ∷ []; list = room; answer = refused 19; exit = room }
     -- a gap parts it too, and no limb crosses one
-    ∷ record { L = 2; days = 100 ∷ 90 ∷ gap ∷ 80 ∷ 40 ∷ []; list = room; answer = values 2 5000; listed = entry 0 2 ∷ entry 3 2 ∷ [] }
-    ∷ record { L = 2; days = 100 ∷ gap ∷ 80 ∷ []; list = room; answer = refused 19; listed = [] }
+    ∷ record { L = 2; days = 100 ∷ 90 ∷ gap ∷ 80 ∷ 40 ∷ []; list = room; answer = values 2 5000; exit = 0 ∷ 2 ∷ 3 ∷ 2 ∷ [] }
+    ∷ record { L = 2; days = 100 ∷ gap ∷ 80 ∷ []; list = room; answer = refused 19; exit = room }
     -- a rise ends a limb, and the last limb ends with the list
-    ∷ record { L = 3; days = 5 ∷ 100 ∷ 80 ∷ 60 ∷ 70 ∷ 30 ∷ 15 ∷ []; list = room; answer = values 4 5000; listed = entry 1 3 ∷ entry 4 3 ∷ [] }
+    ∷ record { L = 3; days = 5 ∷ 100 ∷ 80 ∷ 60 ∷ 70 ∷ 30 ∷ 15 ∷ []; list = room; answer = values 4 5000; exit = 1 ∷ 3 ∷ 4 ∷ 3 ∷ [] }
     -- only limbs of at least L days count
-    ∷ record { L = 3; days = 9 ∷ 1 ∷ 8 ∷ 6 ∷ 3 ∷ 5 ∷ 4 ∷ []; list = room; answer = values 2 5000; listed = entry 2 3 ∷ [] }
+    ∷ record { L = 3; days = 9 ∷ 1 ∷ 8 ∷ 6 ∷ 3 ∷ 5 ∷ 4 ∷ []; list = room; answer = values 2 5000; exit = 2 ∷ 3 ∷ 7 ∷ 7 ∷ [] }
     -- flow 0: the ratio is 0, and nothing falls from it
-    ∷ record { L = 2; days = 10 ∷ 0 ∷ 0 ∷ []; list = room; answer = values 1 0; listed = entry 0 2 ∷ [] }
+    ∷ record { L = 2; days = 10 ∷ 0 ∷ 0 ∷ []; list = room; answer = values 1 0; exit = 0 ∷ 2 ∷ 7 ∷ 7 ∷ [] }
     -- a ratio that rounds to 10000, and one that rounds to 0
-    ∷ record { L = 2; days = 10000000 ∷ 9999999 ∷ []; list = room; answer = values 1 10000; listed = entry 0 2 ∷ [] }
-    ∷ record { L = 2; days = 10000000 ∷ 1 ∷ []; list = room; answer = values 1 0; listed = entry 0 2 ∷ [] }
+    ∷ record { L = 2; days = 10000000 ∷ 9999999 ∷ []; list = room; answer = values 1 10000; exit = 0 ∷ 2 ∷ 7 ∷ 7 ∷ [] }
+    ∷ record { L = 2; days = 10000000 ∷ 1 ∷ []; list = room; answer = values 1 0; exit = 0 ∷ 2 ∷ 7 ∷ 7 ∷ [] }
+    -- the longest first, wherever it lies, and of one length the earlier
+    ∷ record { L = 2; days = 9 ∷ 8 ∷ 9 ∷ 6 ∷ 3 ∷ []; list = room; answer = values 3 6667; exit = 2 ∷ 3 ∷ 0 ∷ 2 ∷ [] }
+    ∷ record { L = 2; days = 9 ∷ 6 ∷ 3 ∷ 8 ∷ 4 ∷ []; list = room; answer = values 3 5000; exit = 0 ∷ 3 ∷ 3 ∷ 2 ∷ [] }
+    ∷ record { L = 2; days = 2 ∷ 1 ∷ 4 ∷ 2 ∷ 6 ∷ 3 ∷ []; list = room6; answer = values 3 5000; exit = 0 ∷ 2 ∷ 2 ∷ 2 ∷ 4 ∷ 2 ∷ 7 ∷ [] }
+    ∷ record { L = 2; days = 2 ∷ 1 ∷ gap ∷ 8 ∷ 4 ∷ 2 ∷ 4 ∷ 2 ∷ 1 ∷ []; list = room6; answer = values 5 5000; exit = 3 ∷ 3 ∷ 6 ∷ 3 ∷ 0 ∷ 2 ∷ 7 ∷ [] }
     -- no days, one day
-    ∷ record { L = 2; days = []; list = []; answer = refused 19; listed = [] }
-    ∷ record { L = 2; days = 5 ∷ []; list = []; answer = refused 19; listed = [] }
+    ∷ record { L = 2; days = []; list = []; answer = refused 19; exit = [] }
+    ∷ record { L = 2; days = 5 ∷ []; list = []; answer = refused 19; exit = [] }
     -- the limb list: two numbers a limb are enough, and one less is not, nor is none
-    ∷ record { L = 2; days = 2 ∷ 1 ∷ []; list = 7 ∷ 7 ∷ []; answer = values 1 5000; listed = entry 0 2 ∷ [] }
-    ∷ record { L = 2; days = 2 ∷ 1 ∷ []; list = 7 ∷ []; answer = refused 22; listed = entry 0 2 ∷ [] }
-    ∷ record { L = 2; days = 2 ∷ 1 ∷ []; list = []; answer = refused 22; listed = entry 0 2 ∷ [] }
+    ∷ record { L = 2; days = 2 ∷ 1 ∷ []; list = 7 ∷ 7 ∷ []; answer = values 1 5000; exit = 0 ∷ 2 ∷ [] }
+    ∷ record { L = 2; days = 2 ∷ 1 ∷ []; list = 7 ∷ []; answer = refused 22; exit = 7 ∷ [] }
+    ∷ record { L = 2; days = 2 ∷ 1 ∷ []; list = []; answer = refused 22; exit = [] }
     -- L 2 to 60, looked at before the days
-    ∷ record { L = 1; days = 10000001 ∷ []; list = []; answer = refused 18; listed = [] }
-    ∷ record { L = 61; days = 2 ∷ 1 ∷ []; list = room; answer = refused 18; listed = [] }
-    ∷ record { L = 60; days = 2 ∷ 1 ∷ []; list = room; answer = refused 19; listed = [] }
+    ∷ record { L = 1; days = 10000001 ∷ []; list = []; answer = refused 18; exit = [] }
+    ∷ record { L = 61; days = 2 ∷ 1 ∷ []; list = room; answer = refused 18; exit = room }
+    ∷ record { L = 60; days = 2 ∷ 1 ∷ []; list = room; answer = refused 19; exit = room }
     -- a day neither flow nor missing, before anything is counted
-    ∷ record { L = 2; days = 2 ∷ 1 ∷ 10000001 ∷ []; list = []; answer = refused 10; listed = entry 0 2 ∷ [] }
+    ∷ record { L = 2; days = 2 ∷ 1 ∷ 10000001 ∷ []; list = []; answer = refused 10; exit = [] }
     ∷ []
 
 pub answers : map (λ r. ratioOutcome (r .L) (r .days) (r .list)) rivers ≡ map (λ r. r .answer) rivers
 unfolding ratioOutcome ratioCauses within tooLong anyInvalidDay isInvalidDay noRatio limbListTooShort countedRatios countedLimbs counted limbs selected hasAtLeast runsFrom further joined limbDays limbDay dayOf limbRatios pairRatios near median atRank rising insertRising
 answers = refl
 
-pub limbs-listed : map (λ r. map limbEntry (countedLimbs (r .L) (r .days))) rivers ≡ map (λ r. r .listed) rivers
-unfolding countedLimbs counted limbs selected hasAtLeast runsFrom further joined limbDays limbDay dayOf
-limbs-listed = refl
+pub lists : map (λ r. ratioLeaves (r .L) (r .days) (r .list)) rivers ≡ map (λ r. r .exit) rivers
+unfolding ratioLeaves listedLimbs leaves ratioCauses within tooLong anyInvalidDay isInvalidDay noRatio limbListTooShort countedRatios countedLimbs counted limbs selected hasAtLeast runsFrom further joined limbDays limbDay dayOf limbRatios pairRatios longestFirst precedes entries rising insertRising
+lists = refl

@@ -10,3 +10,4 @@ mod Tallying
 mod Listing
 mod Consequences
 mod Outcomes
+mod Groups

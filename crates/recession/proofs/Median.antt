@@ -20,18 +20,18 @@ pub median-at-most : {m : ℕ} {ratios : List ℕ} → All (λ r. r ≤ m) ratio
 unfolding median
 median-at-most {m} {ratios} a = rw (at-rank 0 ((length ratios + 1) / 2) (rising leb ratios)) (all-at {P = λ r. r ≤ m} 0 (omega arith) (rising-all leb a) _)
 
-below-all : {m : ℕ} {l : List ℕ} → All (λ r. r ≤ m) l → below (suc m) l ≡ length l
+pub below-all : {m : ℕ} {l : List ℕ} → All (λ r. r ≤ m) l → below (suc m) l ≡ length l
 unfolding below
 below-all none-left = refl
 below-all {m} (and-all {x = x} {l = l} h a) = below-smaller (suc m) x l (omega arith) ∙ ap suc (below-all a)
 
-below-nothing : (l : List ℕ) → below 0 l ≡ 0
+pub below-nothing : (l : List ℕ) → below 0 l ≡ 0
 unfolding below
 below-nothing [] = refl
 below-nothing (x ∷ l) = below-not 0 x l (omega arith) ∙ below-nothing l
 
 -- v itself is not below v, and is below v + 1
-below-next : (v : ℕ) (l : List ℕ) → below (suc v) l ≡ below v l + howMany v l
+pub below-next : (v : ℕ) (l : List ℕ) → below (suc v) l ≡ below v l + howMany v l
 unfolding below howMany
 below-next v [] = omega arith
 below-next v (x ∷ l) =
@@ -46,15 +46,15 @@ below-next v (x ∷ l) =
     ]
 
 module _ (counts ratios : List ℕ) (each : (v : ℕ) → getD counts v 0 ≡ howMany v ratios) where
-  total-below : (v : ℕ) → v ≤ length counts → total (take v counts) ≡ below v ratios
+  pub total-below : (v : ℕ) → v ≤ length counts → total (take v counts) ≡ below v ratios
   unfolding total
   total-below zero h = sym (below-nothing ratios)
   total-below (suc v) h = omega (arith, total-next counts v h, total-below v (omega arith), each v, below-next v ratios)
 
-  module _ (size : length counts ≡ 10001) where
-    pub total-all : All (λ r. r ≤ 10000) ratios → total counts ≡ length ratios
-    total-all a = ap total (sym (take-all 10001 counts (omega arith))) ∙ total-below 10001 (omega arith) ∙ below-all a
+  pub total-all : {m : ℕ} → length counts ≡ suc m → All (λ r. r ≤ m) ratios → total counts ≡ length ratios
+  total-all {m} size a = ap total (sym (take-all (suc m) counts (omega arith))) ∙ total-below (suc m) (omega arith) ∙ below-all a
 
+  module _ (size : length counts ≡ 10001) where
     pub median-found : {r : ℕ} → AtRank counts ((length ratios + 1) / 2) r → r ≡ median ratios
     unfolding median
     median-found {r} f =

@@ -1,32 +1,32 @@
 -- What the call's tests and counts come to: document 01's answer, and the limb list at exit.
 -- Assumes nothing.
-use Prim.Native.Nat.{ℕ, zero, suc, _+_, _*_, _/_, _≤_}
+use Prim.Native.Nat.{ℕ, zero, suc, _+_, _*_, _/_, _≤_, _<_, _^_}
 use mathlib.Core.Path.{_≡_, refl, sym, _∙_, ap, ap₂, subst}
-use mathlib.Core.List.{List, [], _∷_, map, List·Permᴰ, Permᴰ·refl}
+use mathlib.Core.List.{List, [], _∷_}
 use mathlib.Core.Option.{none}
-use native.Mathlib.Nat.{zero-add}
 use native.Mathlib.Omega.{arith}
 use borrow.Author.Tests.{eqb-false, ltb-false}
 use lib.Dec.{eqb, ltb}
-use lib.ListN.{length, getD, take, drop, replicate, length-replicate}
-use lib.Seq.{take-at, drop-at}
+use lib.ListN.{length, getD, drop, replicate, length-replicate}
 use Rattle.numbers.specs.Lists.{stored}
 use Rattle.series.specs.declared.Verdict.{Verdict}
 use Rattle.series.specs.declared.Verdict.the-variants.{Accepted, Refused}
 use Rattle.series.specs.declared.Refusal.{Refusal}
 use Rattle.series.specs.Units.{dayLimit}
 use Rattle.series.specs.Causes.{refusalNumber, cause, firstCause, accepted, refused, Decides}
-use Rattle.series.proofs.Refusing.{passed, decides-after, decides-alone, decided-accepted, answer-refused, outcome-accepted}
+use Rattle.series.proofs.Refusing.{passed, decides-after, decides-alone, decided-accepted, decided-refused, answer-refused, outcome-accepted, leaves-accepted, leaves-refused}
 use Rattle.series.proofs.Views.{not-outside}
 use Rattle.series.proofs.Tests.{few-days}
 use Rattle.recession.specs.declared.Tally.{Tally}
-use Rattle.recession.specs.Limbs.{Limb, limbDays}
+use Rattle.recession.specs.Limbs.{Limb, limbDays, longestFirst, entries}
 use Rattle.recession.specs.Ratios.{limbRatios}
-use Rattle.recession.specs.Call.{noRatio, limbListTooShort, countedLimbs, countedRatios, ratioCauses, ratioOutcome, limbEntry, inPairs, listedOrder, Listed}
-use Rattle.recession.specs.Private.{limbsFrom, howMany, Tallied, total, AtRank, entries, dayCauses, tallyCauses}
-use Rattle.recession.proofs.Listing.{entries-length}
-use Rattle.recession.proofs.Selection.{same-limbs, limbs-few, ratios-few}
-use Rattle.recession.proofs.Median.{total-all, median-found}
+use Rattle.recession.specs.Call.{noRatio, limbListTooShort, countedLimbs, countedRatios, ratioCauses, ratioOutcome, listedLimbs, ratioLeaves}
+use Rattle.recession.specs.Private.{limbsFrom, howMany, Tallied, total, AtRank, dayCounts, longer, Above, Measured, dayCauses, tallyCauses}
+use Rattle.numbers.proofs.Sorting.{All, none-left, and-all, all-weaken}
+use Rattle.recession.proofs.Groups.{longer-rest}
+use Rattle.recession.proofs.Tallying.{counts-length}
+use Rattle.recession.proofs.Selection.{same-limbs, limbs-few, limbs-short, ratios-few}
+use Rattle.recession.proofs.Median.{total-below, total-all, median-found}
 use Rattle.recession.proofs.Consequences.{ratios-at-most}
 
 -- an empty histogram
@@ -35,21 +35,10 @@ all-zero zero v = refl
 all-zero (suc n) zero = refl
 all-zero (suc n) (suc v) = all-zero n v
 
--- two per limb at the front, read in pairs
-pairs-of-entries : (ls : List Limb) → inPairs (entries ls) ≡ map limbEntry ls
-unfolding inPairs entries
-pairs-of-entries [] = refl
-pairs-of-entries (l ∷ ls) = ap (λ es. limbEntry l ∷ es) (pairs-of-entries ls)
-
-pub listed : (ls : List Limb) (list exit : List ℕ) → exit ≡ stored list 0 (entries ls) → Listed ls list exit
-unfolding listedOrder
-listed ls list exit e =
-    let rest = drop (0 + length (entries ls)) list in
-    let front : take (2 * length ls) exit ≡ entries ls = ap (take (2 * length ls)) e ∙ take-at (entries ls) rest (2 * length ls) (entries-length ls) in
-    record {
-      each-once = subst (λ es. List·Permᴰ es (map limbEntry ls)) (sym (ap inPairs front ∙ pairs-of-entries ls)) (Permᴰ·refl (map limbEntry ls));
-      rest = ap (drop (2 * length ls)) e ∙ drop-at (entries ls) rest (2 * length ls) (entries-length ls) ∙ ap (λ n. drop n list) (zero-add (length (entries ls)) ∙ entries-length ls);
-    }
+counts-all : {n : ℕ} {ls : List Limb} → All (λ l. length (l .flows) ≤ n) ls → All (λ k. k ≤ n) (dayCounts ls)
+unfolding dayCounts
+counts-all none-left = none-left
+counts-all (and-all h a) = and-all h (counts-all a)
 
 -- what holds where none of the causes before the limbs does
 pub record Checked (L : ℕ) (days : List ℕ) : Type 0 where
@@ -60,17 +49,44 @@ pub checked : (L : ℕ) (days : List ℕ) → firstCause (dayCauses L days) ≡ 
 unfolding ratioCauses
 checked L days e = let p = passed (dayCauses L days) e in record { two = not-outside 2 60 L (p 18) .0; few = few-days days (p 9) }
 
--- a refusal before a limb is looked for
-pub out-refused : (L : ℕ) (days list : List ℕ) {v : Verdict} {r : Refusal} → Decides (dayCauses L days) v → v ≡ Refused r → refused (refusalNumber r) ≡ ratioOutcome L days list
-unfolding ratioOutcome ratioCauses
-out-refused L days list d e = answer-refused (decides-alone (drop 3 (ratioCauses L days list)) d e) _ refl
+-- a refusal: its number, and the limb list as it was
+pub out-decided : (L : ℕ) (days list : List ℕ) {v : Verdict} {r : Refusal} → Decides (ratioCauses L days list) v → v ≡ Refused r → (refused (refusalNumber r) ≡ ratioOutcome L days list) × (list ≡ ratioLeaves L days list)
+unfolding ratioOutcome ratioLeaves
+out-decided L days list d e = (answer-refused d _ e, sym (leaves-refused (ratioCauses L days list) _ list (decided-refused d e)))
+
+-- one before a limb is looked for
+pub out-refused : (L : ℕ) (days list : List ℕ) {v : Verdict} {r : Refusal} → Decides (dayCauses L days) v → v ≡ Refused r → (refused (refusalNumber r) ≡ ratioOutcome L days list) × (list ≡ ratioLeaves L days list)
+unfolding ratioCauses
+out-refused L days list d e = out-decided L days list (decides-alone (drop 3 (ratioCauses L days list)) d e) refl
 
 module _ {L : ℕ} {days : List ℕ} (c : Checked L days) where
   same : countedLimbs L days ≡ limbsFrom L days 0
   same = same-limbs L days (c .two)
 
-  pub out-list : {list exit : List ℕ} → exit ≡ stored list 0 (entries (limbsFrom L days 0)) → Listed (countedLimbs L days) list exit
-  out-list {list} {exit} e = subst (λ ls. Listed ls list exit) (sym same) (listed (limbsFrom L days 0) list exit e)
+  -- the limb list of an accepted call
+  pub out-list : (list : List ℕ) {exit : List ℕ} → firstCause (ratioCauses L days list) ≡ none → exit ≡ stored list 0 (entries (longestFirst (limbsFrom L days 0))) → exit ≡ ratioLeaves L days list
+  unfolding ratioLeaves listedLimbs
+  out-list list e f = f ∙ ap (λ ls. stored list 0 (entries (longestFirst ls))) (sym same) ∙ sym (leaves-accepted (ratioCauses L days list) _ list e)
+
+  -- the limbs by their numbers of days, and then how many are longer
+  module _ {longest : ℕ} {lengths : List ℕ} (m : Measured (limbsFrom L days 0) longest (replicate 36526 0) lengths) where
+    cells : length lengths ≡ 36526
+    cells = m .added .size ∙ length-replicate {A = ℕ} 36526 0
+
+    each-length : (v : ℕ) → getD lengths v 0 ≡ howMany v (dayCounts (limbsFrom L days 0))
+    each-length v = omega (arith, m .added .each v, all-zero 36526 v)
+
+    all-limbs : total lengths ≡ length (limbsFrom L days 0)
+    all-limbs = total-all lengths (dayCounts (limbsFrom L days 0)) each-length cells (counts-all (all-weaken (λ l h. omega (arith, h, c .few)) (limbs-short L days))) ∙ counts-length (limbsFrom L days 0)
+
+    pub lengths-fit : (length lengths ≡ 36526) × (longest < 36526) × (total lengths < 2 ^ 16)
+    lengths-fit = (cells, omega (arith, m .longest-fits, length-replicate {A = ℕ} 36526 0), omega (arith, all-limbs, limbs-few L days, c .few))
+
+    pub places-found : {after : List ℕ} → Above lengths after → (length after ≡ 36526) × ((v : ℕ) → v < 36526 → getD after v 0 ≡ longer v (limbsFrom L days 0))
+    places-found a = (
+      a .size ∙ cells,
+      λ v h. omega (arith, a .each v (omega (arith, h, cells)), all-limbs, total-below lengths (dayCounts (limbsFrom L days 0)) each-length (suc v) (omega (arith, h, cells)), longer-rest v (limbsFrom L days 0)),
+    )
 
   module _ (t : Tally) {counts : List ℕ} (all : Tallied (limbsFrom L days 0) (t .limbs) (t .ratios) (replicate 10001 0) counts) where
     pub ratios-fit : t .ratios ≤ dayLimit
@@ -94,8 +110,8 @@ module _ {L : ℕ} {days : List ℕ} (c : Checked L days) where
     unfolding countedRatios countedLimbs
     counted-all = total-all counts (countedRatios L days) each sized (ratios-at-most L (limbDays days)) ∙ sym same-count
 
-    pub entries-fit : {n : ℕ} → 2 * t .limbs ≤ n → length (entries (limbsFrom L days 0)) ≤ n
-    entries-fit room = omega (arith, all .limbs, entries-length (limbsFrom L days 0))
+    pub entries-fit : {n : ℕ} → 2 * t .limbs ≤ n → 2 * length (limbsFrom L days 0) ≤ n
+    entries-fit room = omega (arith, all .limbs)
 
     -- neither of them holds
     pub passed-both : {n : ℕ} {w : Verdict} → Decides (tallyCauses t n) w → w ≡ Accepted → (t .ratios ≡ 0 → ⊥) × (2 * t .limbs ≤ n)

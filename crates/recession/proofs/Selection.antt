@@ -1,17 +1,18 @@
 -- The limbs that count: exactly those of which document 01's sentence holds, each once; and how many they are.
 -- Assumes nothing.
-use Prim.Native.Nat.{ℕ, _+_, _-_, _≤_}
+use Prim.Native.Nat.{ℕ, _+_, _-_, _≤_, _<_}
 use mathlib.Core.Path.{_≡_, refl}
 use mathlib.Core.Bool.{Bool, true, false}
-use mathlib.Core.List.{List, [], _∷_, map, List·Memᴰ, List·Nodup}
+use mathlib.Core.List.{List, [], _∷_, List·Memᴰ}
 use mathlib.Core.Option.{Option, none}
 use native.Mathlib.Omega.{arith}
 use borrow.Author.Tests.{leb-true, le-leb}
 use lib.ListN.{length, length-append}
 use Rattle.numbers.specs.Lists.{selected}
-use Rattle.numbers.proofs.Selection.{selected-none, selected-pass, selected-fail, selected-from, selected-still, selected-once, selected-few, select-twice}
+use Rattle.numbers.proofs.Selection.{selected-none, selected-pass, selected-fail, selected-from, selected-still, selected-in-order, selected-few, select-twice}
+use Rattle.numbers.proofs.Sorting.{All, none-left, and-all, all-weaken, InOrder}
 use Rattle.series.specs.Runs.{runs}
-use Rattle.series.proofs.Runs.{run-sentence, runs-once, runs-few, daysIn, runs-cover}
+use Rattle.series.proofs.Runs.{run-sentence, runs-in-order, runs-few, daysIn, runs-cover}
 use Rattle.recession.specs.Limbs.{Limb, RecessionLimb, limbDays, falls, hasAtLeast, limbs, counted}
 use Rattle.recession.specs.Ratios.{pairRatios, limbRatios}
 use Rattle.recession.specs.Call.{countedLimbs}
@@ -31,9 +32,9 @@ module _ (L : ℕ) (days : List (Option ℕ)) where
   is-counted {l} s h =
       selected-still (hasAtLeast L) (le-leb L (length (l .flows)) h) (selected-still (hasAtLeast 2) (le-leb 2 (length (l .flows)) (s .two-days)) (run-sentence falls days l .1 (s .longest)))
 
-  pub counted-once : List·Nodup (map (λ l. l .start) (counted L days))
+  pub counted-in-order : InOrder (λ k l. k .start < l .start) (counted L days)
   unfolding counted limbs
-  counted-once = selected-once (hasAtLeast L) (λ l. l .start) (limbs days) (selected-once (hasAtLeast 2) (λ l. l .start) (runs falls days) (runs-once falls days))
+  counted-in-order = selected-in-order (hasAtLeast L) (selected-in-order (hasAtLeast 2) (runs-in-order falls days))
 
 -- what has at least L days, L at least 2, has at least 2: the code looks for those of at least L days alone
 pub same-limbs : (L : ℕ) (days : List ℕ) → 2 ≤ L → countedLimbs L days ≡ limbsFrom L days 0
@@ -62,6 +63,10 @@ fewer-days test (l ∷ ls) = by-test (test l) refl (fewer-days test ls)
     by-test true e h = rw (selected-pass test ls e) (omega arith)
     by-test false e h = rw (selected-fail test ls e) (omega arith)
 
+pub each-in-all : (ls : List Limb) → All (λ l. length (l .flows) ≤ daysIn falls ls) ls
+each-in-all [] = none-left
+each-in-all (l ∷ ls) = and-all {x = l} (omega arith) (all-weaken (λ k h. omega (arith, h)) (each-in-all ls))
+
 module _ (L : ℕ) (days : List ℕ) where
   abbrev all : List Limb
   all = runs falls (limbDays days)
@@ -73,3 +78,14 @@ module _ (L : ℕ) (days : List ℕ) where
   pub ratios-few : length (limbRatios (limbsFrom L days 0)) ≤ length days
   unfolding limbsFrom
   ratios-few = omega (arith, few-ratios (selected (hasAtLeast L) all), fewer-days (hasAtLeast L) all, runs-cover falls 0 none (limbDays days), view-length days)
+
+  pub limbs-in-order : InOrder (λ k l. k .start < l .start) (limbsFrom L days 0)
+  unfolding limbsFrom
+  limbs-in-order = selected-in-order (hasAtLeast L) (runs-in-order falls (limbDays days))
+
+  -- none has more days than there are
+  pub limbs-short : All (λ l. length (l .flows) ≤ length days) (limbsFrom L days 0)
+  unfolding limbsFrom
+  limbs-short =
+      let few : daysIn falls (selected (hasAtLeast L) all) ≤ length days = omega (arith, fewer-days (hasAtLeast L) all, runs-cover falls 0 none (limbDays days), view-length days) in
+      all-weaken (λ l h. omega (arith, h, few)) (each-in-all (selected (hasAtLeast L) all))

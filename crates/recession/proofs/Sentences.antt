@@ -1,9 +1,9 @@
 -- READ THIS FIRST: document 01's sentences on recession ratios, proved of the definitions in specs/.
 -- Assumes nothing.
-use Prim.Native.Nat.{ℕ, _+_, _/_, _≤_, _<_}
+use Prim.Native.Nat.{ℕ, suc, _+_, _/_, _≤_, _<_}
 use mathlib.Core.Path.{_≡_, refl, ap, subst}
 use mathlib.Core.Bool.{true, false}
-use mathlib.Core.List.{List, [], map, List·Memᴰ, List·Nodup, List·Permᴰ, Permᴰ·symm, Permᴰ·map, Perm·nodup, map-map}
+use mathlib.Core.List.{List, [], map, List·Memᴰ, List·Nodup, List·Permᴰ}
 use mathlib.Core.Logic.{_↔_}
 use mathlib.Core.Option.{Option}
 use native.Mathlib.Omega.{arith}
@@ -11,16 +11,18 @@ use borrow.Author.Tests.{leb-true, not-false}
 use lib.Dec.{leb}
 use lib.ListN.{length, getD}
 use Rattle.numbers.specs.Order.{rising}
-use Rattle.numbers.proofs.Sorting.{rising-length, rising-ascends, rising-permutes, ordered, numbers}
+use Rattle.numbers.proofs.Sorting.{all-weaken, in-order-at, in-order-once, rising-length, rising-ascends, rising-permutes, ordered, numbers}
+use Rattle.series.proofs.Runs.{daysIn}
 use Rattle.series.specs.Units.{within}
 use Rattle.series.specs.Lists.{tooLong, anyInvalidDay}
 use Rattle.series.specs.Causes.{accepted, refused}
 use Rattle.series.proofs.Refusing.{AllFalse, no-cause, next-false, refused-with, outcome-was-accepted, outcome-was-refused}
-use Rattle.recession.specs.Limbs.{Limb, RecessionLimb, limbDays, counted}
-use Rattle.recession.specs.Call.{noRatio, countedLimbs, countedRatios, ratioCauses, Statistics, ratioOutcome, limbEntry, listedOrder, Listed}
+use Rattle.recession.specs.Limbs.{Limb, RecessionLimb, limbDays, falls, counted, precedes, longestFirst}
+use Rattle.recession.specs.Call.{noRatio, countedLimbs, countedRatios, ratioCauses, Statistics, ratioOutcome}
 use Rattle.recession.specs.Private.{dayCauses}
 use Rattle.recession.proofs.Median.{median-at-most}
-use Rattle.recession.proofs.Selection.{counted-is, is-counted, counted-once}
+use Rattle.recession.proofs.Selection.{counted-is, is-counted, counted-in-order, each-in-all}
+use Rattle.recession.proofs.Groups.{Precedes, order-holds}
 use Rattle.recession.proofs.Consequences.{ratios-at-most, no-ratio-no-limb, no-limb-no-ratio}
 
 -- A limb counts exactly if its days are neighbouring, present, each of a smaller flow than the one before, none more on
@@ -30,14 +32,19 @@ limb-sentence L days l = (counted-is L days, λ s. is-counted L days (s .0) (s .
 
 -- Each is there once: no two start on the same day.
 pub each-once : (L : ℕ) (days : List (Option ℕ)) → List·Nodup (map (λ l. l .start) (counted L days))
-each-once L days = counted-once L days
+each-once L days = in-order-once (λ l. l .start) (λ k l h e. omega (arith, h, e)) (counted-in-order L days)
 
--- So the limb list names no first day twice, in whatever order it has them.
-pub listed-once : (L : ℕ) (days : List ℕ) {entry exit : List ℕ} → Listed (countedLimbs L days) entry exit → List·Nodup (map (λ e. e .start) (listedOrder (countedLimbs L days) exit))
-unfolding countedLimbs
-listed-once L days l =
-    let ls = counted L (limbDays days) in
-    Perm·nodup ∣ Permᴰ·map (λ e. e .start) (Permᴰ·symm (l .each-once)) ∣₁ (rw (map-map (λ e. e .start) limbEntry ls) (each-once L (limbDays days)))
+-- The limb list has the counted limbs and no others.
+pub same-limbs-listed : (ls : List Limb) → List·Permᴰ (longestFirst ls) ls
+unfolding longestFirst
+same-limbs-listed ls = rising-permutes precedes ls
+
+-- Of any two of them the earlier in the list has more days, or as many and an earlier first day (`Precedes`).
+pub listed-in-order : (L : ℕ) (days : List (Option ℕ)) (none-there : Limb) (i j : ℕ) → i < j → j < length (longestFirst (counted L days))
+    → Precedes (getD (longestFirst (counted L days)) i none-there) (getD (longestFirst (counted L days)) j none-there)
+listed-in-order L days none-there i j g h =
+    let ls = counted L days in
+    in-order-at (order-holds (suc (daysIn falls ls)) (counted-in-order L days) (all-weaken (λ l k. omega (arith, k)) (each-in-all ls))) none-there i j g h
 
 -- Rising order: the same values, and none above a later one.
 pub rising-same : (ratios : List ℕ) → List·Permᴰ (rising leb ratios) ratios

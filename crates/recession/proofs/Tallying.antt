@@ -1,14 +1,15 @@
--- Limbs, ratios and histogram, tallied limb by limb: what is done and what is left add up to the whole.
+-- Limbs, ratios and the two histograms, tallied limb by limb: what is done and what is left add up to the whole.
 -- Assumes nothing.
-use Prim.Native.Nat.{ℕ, _+_, _-_, _≤_, _<_, _^_}
-use mathlib.Core.Path.{_≡_, refl, _∙_, ap}
+use Prim.Native.Nat.{ℕ, suc, _+_, _-_, _≤_, _<_, _^_, max}
+use mathlib.Core.Path.{_≡_, refl, sym, _∙_, ap}
 use mathlib.Core.List.{List, [], _∷_}
 use native.Mathlib.Omega.{arith}
-use lib.ListN.{length, getD, length-append}
+use lib.ListN.{length, getD, set, length-append, length-set}
+use lib.Seq.{getD-set-other}
 use Rattle.recession.specs.Limbs.{Limb}
 use Rattle.recession.specs.Ratios.{pairRatios, limbRatios}
-use Rattle.recession.specs.Private.{howMany, Added, Tallied}
-use Rattle.recession.proofs.Counting.{many-append, many-few}
+use Rattle.recession.specs.Private.{howMany, Added, Tallied, dayCounts, Measured}
+use Rattle.recession.proofs.Counting.{many-append, many-few, many-here, counted-one}
 use Rattle.recession.proofs.Selection.{pairs-length}
 
 -- of all the limbs those that are not left are tallied
@@ -54,4 +55,47 @@ tallying-done t e =
       limbs = omega (arith, t .limbs-left, ap length e);
       ratios = omega (arith, t .ratios-left, ap (λ ls. length (limbRatios ls)) e);
       added = record { size = t .size; each = λ v. omega (arith, t .each v, ap (λ ls. howMany v (limbRatios ls)) e) };
+    }
+
+-- the limbs by their numbers of days
+pub counts-length : (ls : List Limb) → length (dayCounts ls) ≡ length ls
+unfolding dayCounts
+counts-length [] = refl
+counts-length (l ∷ ls) = ap suc (counts-length ls)
+
+-- of all the limbs those that are not left are counted at their numbers of days
+pub record Measuring (all left : List Limb) (before lengths : List ℕ) (longest : ℕ) : Type 0 where
+  pub size : length lengths ≡ length before
+  pub each : (v : ℕ) → getD lengths v 0 + howMany v (dayCounts left) ≡ getD before v 0 + howMany v (dayCounts all)
+  pub longest-fits : longest < length before
+  pub none-longer : (v : ℕ) → longest < v → getD lengths v 0 ≡ 0
+
+pub measuring-start : (all : List Limb) (lengths : List ℕ) → 0 < length lengths → ((v : ℕ) → getD lengths v 0 ≡ 0) → Measuring all all lengths lengths 0
+measuring-start all lengths h zeros = record { size = refl; each = λ v. refl; longest-fits = h; none-longer = λ v g. zeros v }
+
+module _ {all left next : List Limb} {l : Limb} {before lengths : List ℕ} {longest n : ℕ} (m : Measuring all left before lengths longest) (e : left ≡ l ∷ next) (s : length (l .flows) ≡ n) where
+  head-length : (v : ℕ) → howMany v (dayCounts left) ≡ howMany v (n ∷ dayCounts next)
+  unfolding dayCounts
+  head-length v = ap (λ ls. howMany v (dayCounts ls)) e ∙ ap (λ k. howMany v (k ∷ dayCounts next)) s
+
+  pub measuring-room : ((v : ℕ) → getD before v 0 ≡ 0) → getD lengths n 0 + 1 ≤ length all
+  measuring-room zeros = omega (arith, m .each n, head-length n, many-here n (dayCounts next), zeros n, many-few n (dayCounts all), counts-length all)
+
+  pub measuring-next : n < length before → Measuring all next before (set lengths n (getD lengths n 0 + 1)) (max longest n)
+  measuring-next h =
+      let inside : n < length lengths = omega (arith, m .size) in
+      record {
+        size = length-set lengths n _ ∙ m .size;
+        each = λ v. counted-one lengths n (dayCounts next) v inside ∙ ap (λ k. getD lengths v 0 + k) (sym (head-length v)) ∙ m .each v;
+        longest-fits = omega (arith, m .longest-fits, h);
+        none-longer = λ v g. getD-set-other lengths n v _ 0 (λ q. absurd (omega (arith, q))) ∙ m .none-longer v (omega arith);
+      }
+
+pub measuring-done : {all left : List Limb} {before lengths : List ℕ} {longest : ℕ} → Measuring all left before lengths longest → left ≡ [] → Measured all longest before lengths
+unfolding dayCounts howMany
+measuring-done m e =
+    record {
+      added = record { size = m .size; each = λ v. omega (arith, m .each v, ap (λ ls. howMany v (dayCounts ls)) e) };
+      longest-fits = m .longest-fits;
+      none-longer = m .none-longer;
     }

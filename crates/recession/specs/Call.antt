@@ -1,14 +1,14 @@
 -- The ratio call of document 01: its causes of refusal, its answer, and the limb list at exit.
 use Prim.Native.Nat.{ℕ, _*_}
-use mathlib.Core.Path.{_≡_}
 use mathlib.Core.Bool.{Bool, not}
-use mathlib.Core.List.{List, [], _∷_, map, List·Permᴰ}
-use lib.ListN.{length, take, drop}
+use mathlib.Core.List.{List, [], _∷_}
+use lib.ListN.{length}
 use lib.Dec.{ltb, eqb}
+use Rattle.numbers.specs.Lists.{stored}
 use Rattle.series.specs.Units.{within}
 use Rattle.series.specs.Lists.{tooLong, anyInvalidDay}
-use Rattle.series.specs.Causes.{Cause, cause, Outcome, accepted, refused, outcome, refusalNumber}
-use Rattle.recession.specs.Limbs.{Limb, limbDays, counted}
+use Rattle.series.specs.Causes.{Cause, cause, Outcome, accepted, refused, outcome, leaves, refusalNumber}
+use Rattle.recession.specs.Limbs.{Limb, limbDays, counted, longestFirst, entries}
 use Rattle.recession.specs.Ratios.{limbRatios, median}
 use Rattle.recession.specs.declared.Answer.{Answer}
 use Rattle.recession.specs.declared.Answer.the-variants.{Ratios, Refused}
@@ -53,30 +53,10 @@ abbrev pub outcomeOf : Answer → Outcome Statistics
 outcomeOf (Ratios count median) = accepted (record { count = count; median = median })
 outcomeOf (Refused r) = refused (refusalNumber r)
 
--- a counted limb as the limb list has it: the position of its first day, its number of days
-pub record LimbEntry : Type 0 where
-  pub start : ℕ
-  pub days : ℕ
+-- the limb list after an accepted call: the counted limbs, the longest first, and then the rest as it was
+unfoldable pub listedLimbs : ℕ → (days list : List ℕ) → List ℕ
+listedLimbs L days list = stored list 0 (entries (longestFirst (countedLimbs L days)))
 
-abbrev pub limbEntry : Limb → LimbEntry
-limbEntry l = record { start = l .start; days = length (l .flows) }
-
--- a list of numbers, read in pairs
-unfoldable pub inPairs : List ℕ → List LimbEntry
-inPairs [] = []
-inPairs (a ∷ []) = []
-inPairs (a ∷ b ∷ l) = record { start = a; days = b } ∷ inPairs l
-
--- the free part of the promise: the order in which the limbs are listed, as it stands in the written front
-unfoldable pub listedOrder : List Limb → List ℕ → List LimbEntry
-listedOrder limbs exit = inPairs (take (2 * length limbs) exit)
-
--- the limb list at exit of a call that accepts: in that order each counted limb once and nothing else, and then the rest as it was
-pub record Listed (limbs : List Limb) (entry exit : List ℕ) : Type 0 where
-  pub each-once : List·Permᴰ (listedOrder limbs exit) (map limbEntry limbs)
-  pub rest : drop (2 * length limbs) exit ≡ drop (2 * length limbs) entry
-
--- the limb list at exit: listed, or as it was where the call refuses
-abbrev pub LimbList : Outcome Statistics → List Limb → List ℕ → List ℕ → Type 0
-LimbList (accepted s) limbs entry exit = Listed limbs entry exit
-LimbList (refused n) limbs entry exit = exit ≡ entry
+-- the limb list at exit: with the limbs, or as it was after a refusal
+unfoldable pub ratioLeaves : ℕ → (days list : List ℕ) → List ℕ
+ratioLeaves L days list = leaves (ratioCauses L days list) (listedLimbs L days list) list

@@ -9,10 +9,10 @@ ghost use Rattle.numbers.specs.Lists.{stored};
 ghost use Rattle.series.specs.Units.{dayOf, dayLimit};
 ghost use Rattle.series.specs.Runs.{joined};
 ghost use Rattle.series.specs.Causes.{Decides};
-ghost use Rattle.recession.specs.Limbs.{limbDay, falls};
+ghost use Rattle.recession.specs.Limbs.{limbDay, falls, longestFirst, entries};
 ghost use Rattle.recession.specs.Ratios.{ratio, pairRatios};
-ghost use Rattle.recession.specs.Call.{countedLimbs, ratioOutcome, outcomeOf, LimbList};
-ghost use Rattle.recession.specs.Private.{Falling, limbsFrom, runEnd, NextLimb, howMany, Added, Tallied, total, AtRank, entries, dayCauses, tallyCauses};
+ghost use Rattle.recession.specs.Call.{ratioOutcome, ratioLeaves, outcomeOf};
+ghost use Rattle.recession.specs.Private.{Falling, limbsFrom, runEnd, NextLimb, howMany, Added, Tallied, Measured, longer, total, Above, AtRank, dayCauses, tallyCauses};
 
 // The range of L, the fewest days of a limb that counts.
 pub const LEAST_LIMB_DAYS: u32 = 2;
@@ -104,30 +104,46 @@ fn tally_pairs(limb: &[u32], counts: &mut [u32; 10001])
     }
 }
 
-// How many limbs count, and how many ratios they have.
+// How many limbs count, how many ratios they have, and the most days that one of them has.
 struct Tally {
     limbs: usize,
     ratios: usize,
+    longest: usize,
 }
 
-// Counts the limbs of at least `shortest` days and their ratios, these also each at its value.
-fn tally_limbs(shortest: usize, days: &[u32], counts: &mut [u32; 10001]) -> Tally
+// Counts the limbs of at least `shortest` days, each also at its number of days, and their ratios, each also at its value.
+fn tally_limbs(
+    shortest: usize,
+    days: &[u32],
+    counts: &mut [u32; 10001],
+    lengths: &mut [u16; 36526],
+) -> Tally
     requires { ⌜ (2 ≤ shortest) × (length (now days) ≤ dayLimit) ⌝ }
     requires { ⌜ (length (now counts) ≡ 10001) × ((v : ℕ) → getD (now counts) v 0 ≡ 0) ⌝ }
+    requires { ⌜ (length (now lengths) ≡ 36526) × ((v : ℕ) → getD (now lengths) v 0 ≡ 0) ⌝ }
     ensures { λ r. ⌜ Tallied (limbsFrom shortest (now (days .entry)) 0) (r .limbs) (r .ratios) (now (counts .entry)) (now (counts .exit)) ⌝ }
+    ensures { λ r. ⌜ Measured (limbsFrom shortest (now (days .entry)) 0) (r .longest) (now (lengths .entry)) (now (lengths .exit)) ⌝ }
 {
     let mut limbs = 0;
     let mut ratios = 0;
+    let mut longest = 0;
     let mut limb = next_limb(shortest, days, 0);
     while limb.first < limb.end {
         let first = limb.first;
         let end = limb.end;
         tally_pairs(&days[first..end], &mut *counts);
+        let size = end - first;
+        lengths[size] += 1;
+        longest = numbers::most(longest, size);
         limbs += 1;
-        ratios += end - first - 1;
+        ratios += size - 1;
         limb = next_limb(shortest, days, end);
     }
-    Tally { limbs, ratios }
+    Tally {
+        limbs,
+        ratios,
+        longest,
+    }
 }
 
 // The value of a rank, counted from 1, among the ratios of a histogram: found by its cumulative counts.
@@ -148,20 +164,39 @@ fn at_rank(counts: &[u32; 10001], rank: u32) -> u32
     10_000
 }
 
-// Writes position and number of days of each limb of at least `shortest` days, from the list's start.
-fn list_limbs(shortest: usize, days: &[u32], list: &mut [u32])
-    requires { ⌜ (2 ≤ shortest) × (length (now days) ≤ dayLimit) ⌝ }
-    requires { ⌜ length (entries (limbsFrom shortest (now days) 0)) ≤ length (now list) ⌝ }
-    ensures { λ r. ⌜ now (list .exit) ≡ stored (now (list .entry)) 0 (entries (limbsFrom shortest (now (days .entry)) 0)) ⌝ }
+// Turns how many limbs have each number of days into how many have more. None has more than `longest`.
+fn count_longer(lengths: &mut [u16; 36526], longest: usize)
+    requires { ⌜ (length (now lengths) ≡ 36526) × (longest < 36526) × (total (now lengths) < 2 ^ 16) ⌝ }
+    requires { ⌜ ((v : ℕ) → longest < v → getD (now lengths) v 0 ≡ 0) ⌝ }
+    ensures { λ _. ⌜ Above (now (lengths .entry)) (now (lengths .exit)) ⌝ }
 {
-    let mut at = 0;
+    let mut longer = 0;
+    let mut v = longest + 1;
+    while 0 < v {
+        v -= 1;
+        let here = lengths[v];
+        lengths[v] = longer;
+        longer += here;
+    }
+}
+
+// Writes position and number of days of each limb of at least `shortest` days into the list, the longest first. A limb's
+// place is behind the longer ones, whose number `places` has, and behind those of its length that came before it.
+fn list_limbs(shortest: usize, days: &[u32], places: &mut [u16; 36526], list: &mut [u32])
+    requires { ⌜ (2 ≤ shortest) × (length (now days) ≤ dayLimit) ⌝ }
+    requires { ⌜ 2 * length (limbsFrom shortest (now days) 0) ≤ length (now list) ⌝ }
+    requires { ⌜ (length (now places) ≡ 36526) × ((v : ℕ) → v < 36526 → getD (now places) v 0 ≡ longer v (limbsFrom shortest (now days) 0)) ⌝ }
+    ensures { λ _. ⌜ now (list .exit) ≡ stored (now (list .entry)) 0 (entries (longestFirst (limbsFrom shortest (now (days .entry)) 0))) ⌝ }
+{
     let mut limb = next_limb(shortest, days, 0);
     while limb.first < limb.end {
         let first = limb.first;
         let end = limb.end;
+        let size = end - first;
+        let at = 2 * (places[size] as usize);
         list[at] = first as u32;
-        list[at + 1] = (end - first) as u32;
-        at += 2;
+        list[at + 1] = size as u32;
+        places[size] += 1;
         limb = next_limb(shortest, days, end);
     }
 }
@@ -189,10 +224,10 @@ fn check_limbs(found: Tally, room: usize) -> Verdict
 
 // The number of recession ratios and their median, for limbs of at least `shortest` days (document 01: L). The limb
 // list gets, from its start, two numbers for each of these limbs: the position of its first day and its number of days.
-// A refusal leaves it as it was.
+// The longest limb comes first, and of limbs of one length the earlier. A refusal leaves the list as it was.
 pub fn ratios(shortest: u32, days: &[u32], limbs: &mut [u32]) -> Answer
     ensures answer { λ r. ⌜ outcomeOf r ≡ ratioOutcome shortest (now (days .entry)) (now (limbs .entry)) ⌝ }
-    ensures limb_list { λ r. ⌜ LimbList (outcomeOf r) (countedLimbs shortest (now (days .entry))) (now (limbs .entry)) (now (limbs .exit)) ⌝ }
+    ensures limb_list { λ _. ⌜ now (limbs .exit) ≡ ratioLeaves shortest (now (days .entry)) (now (limbs .entry)) ⌝ }
 {
     let verdict = check(shortest, days);
     if let Verdict::Refused(refusal) = verdict {
@@ -200,12 +235,14 @@ pub fn ratios(shortest: u32, days: &[u32], limbs: &mut [u32]) -> Answer
     }
     let limb_days = shortest as usize;
     let mut counts = [0u32; 10001];
-    let found = tally_limbs(limb_days, days, &mut counts);
+    let mut lengths = [0u16; 36526];
+    let found = tally_limbs(limb_days, days, &mut counts, &mut lengths);
     let verdict = check_limbs(found, limbs.len());
     if let Verdict::Refused(refusal) = verdict {
         return Answer::Refused(refusal);
     }
-    list_limbs(limb_days, days, &mut *limbs);
+    count_longer(&mut lengths, found.longest);
+    list_limbs(limb_days, days, &mut lengths, &mut *limbs);
     let count = found.ratios as u32;
     let rank = (count + 1) / 2;
     let median = at_rank(&counts, rank);

@@ -66,30 +66,6 @@ fn day_sum(days: &[u32]) -> u64 {
     sum
 }
 
-// A sum with the limb that starts at i, if one does.
-fn with_limb(sum: u64, limbs: &[u32], i: usize) -> u64 {
-    if i % 2 == 0 {
-        if i < limbs.len() {
-            let second = i + 1;
-            if second < limbs.len() {
-                return (sum % MODULUS + mixed(wide(limbs[i]), wide(limbs[second]))) % MODULUS;
-            }
-        }
-    }
-    sum
-}
-
-// A check sum of the limbs that is the same for each order of them.
-fn limb_sum(limbs: &[u32]) -> u64 {
-    let mut sum = 0;
-    let mut i = 0;
-    while i < limbs.len() {
-        sum = with_limb(sum, limbs, i);
-        i += 1;
-    }
-    sum
-}
-
 // The end of a line with a base list: its check sum, and its values on the first, the middle and the last day.
 pub fn base_list(base: &[u64]) {
     named(b", base", base_sum(base));
@@ -107,7 +83,7 @@ pub fn day_list(days: &[u32]) {
 }
 
 pub fn limb_list(limbs: &[u32]) {
-    named(b", limbs", limb_sum(limbs));
+    named(b", limbs", day_sum(limbs));
     end_of_line();
 }
 

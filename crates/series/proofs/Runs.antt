@@ -4,14 +4,14 @@
 use Prim.Native.Nat.{ℕ, zero, suc, _+_, _≤_, _<_}
 use mathlib.Core.Path.{_≡_, refl, sym, _∙_, ap, ap₂, subst}
 use mathlib.Core.Bool.{Bool, true, false, cond}
-use mathlib.Core.List.{List, [], _∷_, map, List·Memᴰ, List·Memᴰ·head, List·Memᴰ·tail, List·Memᴰ·not-nil, List·Memᴰ·cases-cons, Memᴰ·of-map, List·Nodup, nodup-nil, nodup-cons, head-eq-of-cons-eq, tail-eq-of-cons-eq, cons-ne-nil}
-use mathlib.Core.HLevel.{⊥-prop}
-use mathlib.Core.Logic.{_↔_, _⊎_, inl, inr, ⊎-elim, ∥∥₁-elim}
+use mathlib.Core.List.{List, [], _∷_, map, List·Memᴰ, List·Memᴰ·head, List·Memᴰ·tail, List·Memᴰ·not-nil, List·Memᴰ·cases-cons, head-eq-of-cons-eq, tail-eq-of-cons-eq, cons-ne-nil}
+use mathlib.Core.Logic.{_↔_, _⊎_, inl, inr, ⊎-elim}
 use mathlib.Core.Option.{Option, none, some, Option·none-ne-some, Option·some-injective}
 use native.Mathlib.Nat.{add-zero, zero-add, suc-add}
 use native.Mathlib.Omega.{arith}
 use lib.ListN.{length, getD, take, drop}
 use lib.Seq.{drop-nil, getD-drop, getD-take}
+use Rattle.numbers.proofs.Sorting.{all-members, InOrder, order-end, order-next}
 use Rattle.series.specs.Runs.{joined, joinsAt, Longest, Run, further, runsFrom, runs}
 
 module _ {A : Type 0} (joins : A → A → Bool) where
@@ -274,28 +274,22 @@ module _ {A : Type 0} (joins : A → A → Bool) where
           let e : h .0 ≡ r .start = omega (arith, h .1 .at) in
           from-first-day (r .start) (subst (λ k. Longest joins (none ∷ days) (suc k) (r .flows)) e (h .1 .longest))
 
-  -- each once: no two start on the same day
-  once-from : (p : ℕ) (before : Option A) (ds : List (Option A)) → List·Nodup (map (λ r. r .start) (runsFrom joins p before ds))
+  -- in the order of their first days, and so each once
+  in-order-from : (p : ℕ) (before : Option A) (ds : List (Option A)) → InOrder (λ r s. r .start < s .start) (runsFrom joins p before ds)
   unfolding runsFrom
-  once-from p before [] = nodup-nil
-  once-from p before (none ∷ ds) = once-from (suc p) none ds
-  once-from p before (some y ∷ ds) = by-test (joined joins before (some y)) (once-from (suc p) (some y) ds)
+  in-order-from p before [] = order-end
+  in-order-from p before (none ∷ ds) = in-order-from (suc p) none ds
+  in-order-from p before (some y ∷ ds) = by-test (joined joins before (some y)) (in-order-from (suc p) (some y) ds)
     where
       later : List (Run A)
       later = runsFrom joins (suc p) (some y) ds
 
-      not-later : List·Memᴰ p (map (λ r. r .start) later) → ⊥
-      not-later d =
-          let m = Memᴰ·of-map (λ r. r .start) later d in
-          let h = run-placed (suc p) (some y) ds (m .0) (m .1) in
-          omega (arith, m .2, h .1 .at)
+      by-test : (b : Bool) → InOrder (λ r s. r .start < s .start) later → InOrder (λ r s. r .start < s .start) (cond b later (runOn p y ds ∷ later))
+      by-test true o = o
+      by-test false o = order-next {x = runOn p y ds} (all-members later (λ r m. let h = run-placed (suc p) (some y) ds r m in omega (arith, h .1 .at))) o
 
-      by-test : (b : Bool) → List·Nodup (map (λ r. r .start) later) → List·Nodup (map (λ r. r .start) (cond b later (runOn p y ds ∷ later)))
-      by-test true n = n
-      by-test false n = nodup-cons .1 ((λ m. ∥∥₁-elim m ⊥-prop not-later), n)
-
-  pub runs-once : (days : List (Option A)) → List·Nodup (map (λ r. r .start) (runs joins days))
-  runs-once days = once-from 0 none days
+  pub runs-in-order : (days : List (Option A)) → InOrder (λ r s. r .start < s .start) (runs joins days)
+  runs-in-order days = in-order-from 0 none days
 
   -- day t lies in a run of the list
   pub record InRun (rs : List (Run A)) (t : ℕ) : Type 0 where

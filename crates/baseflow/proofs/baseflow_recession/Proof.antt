@@ -8,12 +8,12 @@ use Rattle.baseflow.proofs.baseflow_recession.Tie as tie
 returns : tie.Need-returns
 returns c =
     let ratios = c .before .before .before .before .before .before .ratios .ensures in
-    rw (← ratios .0, c .before .before .answer .given .1) (c .number .ensures, (rw (c .before .before .answer .given .1) at (ratios .1), (refl, refl)))
+    rw (← ratios .0, c .before .before .answer .given .1) (c .number .ensures, (ratios .1, (refl, refl)))
 
 returns-2 : tie.Need-returns-2
 returns-2 c =
     let ratios = c .before .before .before .before .before .ratios .ensures in
-    rw (← ratios .0, c .before .answer2 .given .1) (refl, (rw (c .before .answer2 .given .1) at (ratios .1), (refl, refl)))
+    rw (← ratios .0, c .before .answer2 .given .1) (refl, (ratios .1, (refl, refl)))
 
 pub baseflow-recession-spec : {M : Type 1} → statement M
 baseflow-recession-spec =

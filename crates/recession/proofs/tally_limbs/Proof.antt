@@ -1,23 +1,26 @@
 -- `recession::tally_limbs` meets its contract: what is tallied, and what is left from the limb in hand on, add up to the
 -- whole.
 -- Assumes nothing.
-use Prim.Native.Nat.{_+_, _-_, _≤_}
+use Prim.Native.Nat.{_+_, _-_, _≤_, _<_}
+use mathlib.Core.Path.{sym, subst}
 use native.Mathlib.Omega.{arith}
-use lib.ListN.{length}
+use borrow.Author.Needs.{needs}
+use lib.ListN.{length, getD}
 use Rattle.recession.specs.Ratios.{limbRatios}
 use Rattle.recession.specs.Private.{limbsFrom}
 use Rattle.recession.proofs.Walk.{InHand, in-hand, the-limb, limb-size}
 use Rattle.recession.proofs.Selection.{limbs-few, ratios-few}
-use Rattle.recession.proofs.Tallying.{Tallying, tallying-start, tallying-room, tallying-fits, tallying-next, tallying-done}
+use Rattle.recession.proofs.Tallying.{Tallying, tallying-start, tallying-room, tallying-fits, tallying-next, tallying-done, Measuring, measuring-start, measuring-room, measuring-next, measuring-done}
 use Rattle.recession.proofs.tally_limbs.Statement.{statement}
 use Rattle.recession.proofs.tally_limbs.Tie as tie
 
 abbrev Inv-loop : tie.InvT-loop
-Inv-loop shortest days counts₀ limbs₀ ratios₀ limb₀ counts limbs ratios limb =
+Inv-loop shortest days counts₀ lengths₀ limbs₀ ratios₀ longest₀ limb₀ counts lengths limbs ratios longest limb =
     (i : InHand shortest days (limb .first) (limb .end)) × Tallying (limbsFrom shortest days 0) (limbsFrom shortest days (i .from)) counts₀ counts limbs ratios
+    × Measuring (limbsFrom shortest days 0) (limbsFrom shortest days (i .from)) lengths₀ lengths longest
 
 abbrev μ-loop : tie.MeasureT-loop
-μ-loop shortest days counts₀ limbs₀ ratios₀ limb₀ counts limbs ratios limb = length days - limb .first
+μ-loop shortest days counts₀ lengths₀ limbs₀ ratios₀ longest₀ limb₀ counts lengths limbs ratios longest limb = length days - limb .first
 
 abbrev at : tie.Then1 Inv-loop μ-loop → tie.At-loop Inv-loop μ-loop
 at c = c .before .before
@@ -36,7 +39,7 @@ tally-pairs-requires c κs =
     let t = c .before .before in
     let i = at t .loop .inv in
     let l = the-limb (i .0) (t .if1 .taken) in
-    (l .falling, (omega (arith, i .1 .size, start t .pre .1 .0), tallying-room (i .1) (l .next) (start t .pre .1 .1) (omega (arith, few t))))
+    (l .falling, (omega (arith, i .1 .size, start t .pre .1 .0 .0), tallying-room (i .1) (l .next) (start t .pre .1 .0 .1) (omega (arith, few t))))
 
 -- one limb more, and its ratios
 fits : (c : tie.Then1 Inv-loop μ-loop) → let l = at c .loop in (l .limbs ≤ 36524) × (l .ratios + (l .limb .end - l .limb .first - 1) ≤ 36525)
@@ -45,20 +48,36 @@ fits c =
     let f = tallying-fits (i .1) (the-limb (i .0) (c .if1 .taken) .next) (limb-size (i .0) (c .if1 .taken)) in
     (omega (arith, f .0, limbs-few (start c .args .shortest) (start c .args .days .now), start c .pre .0 .1), omega (arith, f .1, few c))
 
+-- its number of days has a cell, with room for one more
+cell : (c : tie.Then1 Inv-loop μ-loop) → at c .loop .limb .end - at c .loop .limb .first < 36526
+cell c = omega (arith, inside c, start c .pre .0 .1)
+
+counted : (c : tie.Then1 Inv-loop μ-loop) → let l = at c .loop in getD (l .lengths) (l .limb .end - l .limb .first) 0 + 1 ≤ 36525
+counted c =
+    let i = at c .loop .inv in
+    omega (arith, measuring-room (i .2) (the-limb (i .0) (c .if1 .taken) .next) (limb-size (i .0) (c .if1 .taken)) (start c .pre .1 .1 .1), limbs-few (start c .args .shortest) (start c .args .days .now), start c .pre .0 .1)
+
 loop-again : tie.Need-loop-again Inv-loop μ-loop
 loop-again c =
-    let t = c .before .before .before .before in
+    let t = c .before .before .before .before .before .before in
     let i = at t .loop .inv in
-    (in-hand (c .next-limb2 .ensures), tallying-next (i .1) (the-limb (i .0) (t .if1 .taken) .next) (limb-size (i .0) (t .if1 .taken)) (c .before .tally-pairs .ensures))
+    let l = the-limb (i .0) (t .if1 .taken) in
+    let s = limb-size (i .0) (t .if1 .taken) in (
+      in-hand (c .next-limb2 .ensures),
+      tallying-next (i .1) (l .next) s (c .before .before .before .tally-pairs .ensures),
+      subst (Measuring _ _ _ _) (sym (c .before .most .ensures)) (measuring-next (i .2) (l .next) s (omega (arith, cell t, start t .pre .1 .1 .0))),
+    )
 
 pub tally-limbs-spec : {M : Type 1} → statement M
 tally-limbs-spec =
     tie.close
     (tie.spec Inv-loop μ-loop (λ c κs. c .before .pre .0 .0)
-    (λ c. (in-hand (c .next-limb .ensures), tallying-start _ _)) (λ c. omega (arith, inside c, start c .pre .0 .1))
-    (λ c. omega arith) (λ c. omega arith) (λ c. inside c) tally-pairs-requires
-    (λ c. omega (arith, fits (c .before .before .before) .0)) (λ c. omega arith) (λ c. omega arith)
-    (λ c. omega (arith, fits (c .before .before .before) .1)) (λ c κs. start (c .before .before .before) .pre .0 .0)
-    (λ c. let t = c .before .before .before .before in omega (arith, c .next-limb2 .ensures .onward, inside t))
+    (λ c. (in-hand (c .next-limb .ensures), tallying-start _ _, measuring-start _ _ (omega (arith, c .before .before .pre .1 .1 .0)) (c .before .before .pre .1 .1 .1)))
+    (λ c. omega (arith, inside c, start c .pre .0 .1)) (λ c. omega arith) (λ c. omega arith) (λ c. inside c) tally-pairs-requires
+    (λ c. omega arith) (λ c. omega (arith, cell (c .before .before .before))) (λ c. cell (c .before .before .before))
+    (λ c. omega (arith, counted (c .before .before .before .before))) (λ c. cell (c .before .before .before .before)) (λ c κs. search needs)
+    (λ c. omega (arith, fits (c .before .before .before .before .before) .0)) (λ c. omega arith)
+    (λ c. omega (arith, fits (c .before .before .before .before .before) .1)) (λ c κs. start (c .before .before .before .before .before) .pre .0 .0)
+    (λ c. let t = c .before .before .before .before .before .before in omega (arith, c .next-limb2 .ensures .onward, inside t))
     loop-again
-    (λ c. let i = c .before .before .loop .inv in tallying-done (i .1) (i .0 .search .nowhere (c .if1 .left))))
+    (λ c. let i = c .before .before .loop .inv in let e = i .0 .search .nowhere (c .if1 .left) in (tallying-done (i .1) e, measuring-done (i .2) e)))
