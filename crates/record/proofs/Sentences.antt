@@ -1,15 +1,24 @@
 -- READ THIS FIRST. Document 01's sentences on reading, entry by entry, of the definition in specs/Call.antt, which
 -- passes over a body byte by byte. Between them they say what any bytes come to.
 -- Assumes nothing.
-use Prim.Native.Nat.{ℕ, zero, suc, _+_}
-use mathlib.Core.Path.{_≡_, refl}
+use Prim.Native.Nat.{ℕ, zero, suc, _+_, _*_, _≤_}
+use mathlib.Core.Path.{_≡_, refl, sym}
 use mathlib.Core.Bool.{Bool, true, false}
 use mathlib.Core.List.{List, [], _∷_, _++_}
 use mathlib.Core.Option.{none, some}
-use lib.ListN.{length, drop}
+use lib.ListN.{length, getD, take, drop}
 use Rattle.series.specs.Causes.{firstCause, accepted, refused, mapOutcome}
-use Rattle.record.specs.Entries.{Entry, entryOf, isEnd, bodyLength, statedDays, entryCauses}
+use Rattle.record.specs.Entries.{number, Entry, entryOf, isEnd, bodyLength, statedDays, entryCauses}
 use Rattle.record.specs.Call.{entryThen, daysFrom}
+use Rattle.record.proofs.Bytes.{two, four}
+
+-- A number of a record, wherever it stands in the bytes, is theirs, the lowest byte first.
+module _ (bytes : List ℕ) (at : ℕ) where
+  pub four-byte-number : at + 4 ≤ length bytes → number (take 4 (drop at bytes)) ≡ getD bytes at 0 + 256 * getD bytes (at + 1) 0 + 65536 * getD bytes (at + 2) 0 + 16777216 * getD bytes (at + 3) 0
+  four-byte-number h = sym (four bytes at refl refl refl refl h)
+
+  pub two-byte-number : at + 2 ≤ length bytes → number (take 2 (drop at bytes)) ≡ getD bytes at 0 + 256 * getD bytes (at + 1) 0
+  two-byte-number h = sym (two bytes at refl refl h)
 
 -- reading behind a body is reading the bytes behind it
 pub pass-over : (first : Bool) (n room over : ℕ) (bytes : List ℕ) → daysFrom first n room over bytes ≡ daysFrom first n room 0 (drop over bytes)
