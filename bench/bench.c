@@ -17,13 +17,13 @@ enum { RUNS = 25, RUN_NANOSECONDS = 4000000, STACK = 1 << 18, PAINT = 0xc3, SIZE
 static const uint32_t sizes[SIZES] = {1000, 10000, MOST};
 
 enum input { FLOWS, GAPS, MIXED, LATE, SUMMERS, LENGTHS, TWOS };
-enum call { READ, FILTER, STEP, LINE, TOTALS, RECESSION };
+enum call { READ, FILTER, STEP, LINE, TOTALS, RECESSION, BFIMAX };
 
 static const struct job {
     const char *name;
     enum call call;
     enum input input;
-    uint32_t first, p, q; // method, p and q; or N and g; or L
+    uint32_t first, p, q; // method, p and q; or N and g; or L; or D and p
     int32_t s;
     uint32_t passes;
 } jobs[] = {
@@ -49,6 +49,8 @@ static const struct job {
     {"recession, L 5", RECESSION, GAPS, 5, 0, 0, 0, 0},
     {"recession, all lengths", RECESSION, LENGTHS, 2, 0, 0, 0, 0},
     {"recession, 18,000 limbs", RECESSION, TWOS, 2, 0, 0, 0, 0},
+    {"bfimax, D 365", BFIMAX, FLOWS, 365, 9700, 0, 0, 0},
+    {"bfimax, D 3650 or all", BFIMAX, FLOWS, 3650, 9700, 0, 0, 0},
 };
 enum { JOBS = sizeof jobs / sizeof *jobs };
 
@@ -181,9 +183,13 @@ static uintptr_t stack_before;
             (r)->answer = prefix##totals(days, count, given_base, count, &(r)->small[0], &(r)->large[0],               \
                                          &(r)->large[1], &(r)->large[2], &(r)->small[1]);                              \
             break;                                                                                                     \
-        default:                                                                                                       \
+        case RECESSION:                                                                                                \
             (r)->answer = prefix##recession((job)->first, days, count, (r)->limbs, count, &(r)->small[0],              \
                                             &(r)->small[1]);                                                           \
+            break;                                                                                                     \
+        default:                                                                                                       \
+            (r)->answer = prefix##bfimax(count - 1, (job)->first < count ? (job)->first : count, (job)->p, days,       \
+                                         count, (r)->base, count, &(r)->small[0]);                                     \
         }                                                                                                              \
     } while (0)
 

@@ -2,13 +2,14 @@
  * baseflow.h - base flow engine of a sealed river gauging box
  *
  * Base flow is the part of a river's flow that groundwater feeds. From a record of daily flows the engine reads the
- * days, separates base flow by a recursive filter or by the smoothed-minima line, totals it, and finds recession
- * ratios. Link with target/staticlib/libbaseflow.a, which `rt staticlib baseflow` makes (x86-64).
+ * days, separates base flow by a recursive filter or by the smoothed-minima line, totals it, finds recession ratios,
+ * and estimates BFImax from the river itself. Link with target/staticlib/libbaseflow.a, which `rt staticlib baseflow`
+ * makes (x86-64).
  *
  * Units
  *   flow        litres a second, whole, 0 to 10,000,000
  *   base flow   thousandths of a litre a second; a flow of y litres is 1000 * y of them
- *   parameters, factor, index and ratio
+ *   parameters, factor, index, ratio and BFImax
  *               ten-thousandths: 9250 is 0.925
  *   day list    uint32_t a day: its flow, or BASEFLOW_MISSING
  *   base list   uint64_t a day: its base flow, or BASEFLOW_NO_VALUE
@@ -55,6 +56,7 @@ extern "C" {
 #define BASEFLOW_MOST_FLOW 10000000u   /* litres a second */
 #define BASEFLOW_MOST_DAYS 36525u      /* days in a record and in a day list */
 #define BASEFLOW_MOST_FIRST_DAY 99999u /* days since 1 January 1900, which is day 0 */
+#define BASEFLOW_MOST_DURATION 3650u   /* days that BFImax is taken from; at least 2 */
 
 /* kinds of a record's entries; numbers in a record are unsigned, low byte first */
 #define BASEFLOW_HEAD 0x01         /* 4 bytes: first day, 0 to 99,999 */
@@ -86,7 +88,7 @@ enum baseflow_answer {
     BASEFLOW_DAYS_TOO_LONG = 9,    /* a day list of more than 36,525 days */
     BASEFLOW_BAD_DAY = 10,         /* a number for a day that is neither a flow nor the mark of a missing day */
     BASEFLOW_BAD_METHOD = 11,      /* a method that is not 1 to 7 */
-    BASEFLOW_BAD_PARAMETER = 12,   /* p, q or s outside the range of its method */
+    BASEFLOW_BAD_PARAMETER = 12,   /* p, q or s outside its range */
     BASEFLOW_BAD_PASSES = 13,      /* passes that are not 1, 2 or 3, or are 2 or 3 in another method than 1 */
     BASEFLOW_LENGTHS_DIFFER = 14,  /* a base list that is not as long as the day list */
     BASEFLOW_BAD_STATE = 15,       /* a state whose flow is above 10,000,000, or whose base is above 1000 * that flow */
@@ -96,7 +98,9 @@ enum baseflow_answer {
     BASEFLOW_NO_RATIO = 19,        /* no ratio, since no limb counts */
     BASEFLOW_BAD_BASE = 20,        /* a base value on a missing day, or one above 1000 * the flow of its day */
     BASEFLOW_NO_FLOW = 21,         /* a flow total Y of 0 */
-    BASEFLOW_LIMBS_SHORT = 22      /* a limb list without two numbers for each counted limb */
+    BASEFLOW_LIMBS_SHORT = 22,     /* a limb list without two numbers for each counted limb */
+    BASEFLOW_BAD_DURATION = 23,    /* duration D out of range */
+    BASEFLOW_BAD_SPELL = 24        /* a last day outside the list, or a missing day or none on one of the D days */
 };
 
 /*
@@ -171,6 +175,20 @@ uint32_t baseflow_totals(const uint32_t *days, size_t days_len, const uint64_t *
  */
 uint32_t baseflow_recession(uint32_t limb_days, const uint32_t *days, size_t days_len, uint32_t *limbs,
                             size_t limbs_len, uint32_t *ratio_count, uint32_t *ratio);
+
+/*
+ * BFImax from the river itself: the q of method 5 (BASEFLOW_ECKHARDT), by a filter that runs backwards over the
+ * `duration` days (2 to 3,650) that end with the day at place `last_day`, itself among them. p (1 to 9999) is the
+ * recession constant. The last day has all of its flow for base flow; each day before it has the base flow of the day
+ * behind it divided by p / 10000, rounded, but never more than its own flow.
+ *
+ * Refuses: 12, 23, 9, 14, 10, 24, 21.
+ * On 0: *bfimax is the share of base flow in those days, in ten-thousandths, 0 to 10,000. All of `base` is written, at
+ * most 1000 * flow on those days and BASEFLOW_NO_VALUE on every other.
+ * Lend a base list exactly as long as the day list. A BFImax of 0 or 10,000 is no q of method 5.
+ */
+uint32_t baseflow_bfimax(uint32_t last_day, uint32_t duration, uint32_t p, const uint32_t *days, size_t days_len,
+                         uint64_t *base, size_t base_len, uint32_t *bfimax);
 
 #ifdef __cplusplus
 }

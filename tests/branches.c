@@ -189,7 +189,56 @@
     X(RECESSION_L_60, "recession", "accepted, L 60")                                                                   \
     X(RECESSION_FULL, "recession", "accepted, list filled")                                                            \
     X(RECESSION_REST, "recession", "accepted, rest of list left")                                                      \
-    X(RECESSION_MOST_DAYS, "recession", "accepted, 36,525 days")
+    X(RECESSION_MOST_DAYS, "recession", "accepted, 36,525 days")                                                       \
+    X(BFIMAX_12_LOW, "bfimax", "refused 12, p 0")                                                                      \
+    X(BFIMAX_12_HIGH, "bfimax", "refused 12, p high")                                                                  \
+    X(BFIMAX_12_NEXT, "bfimax", "refused 12, p 10000")                                                                 \
+    X(BFIMAX_23_NONE, "bfimax", "refused 23, D 0")                                                                     \
+    X(BFIMAX_23_ONE, "bfimax", "refused 23, D 1")                                                                      \
+    X(BFIMAX_23_HIGH, "bfimax", "refused 23, D high")                                                                  \
+    X(BFIMAX_23_NEXT, "bfimax", "refused 23, D 3,651")                                                                 \
+    X(BFIMAX_9, "bfimax", "refused 9")                                                                                 \
+    X(BFIMAX_14_SHORT, "bfimax", "refused 14, base short")                                                             \
+    X(BFIMAX_14_LONG, "bfimax", "refused 14, base long")                                                               \
+    X(BFIMAX_10, "bfimax", "refused 10, on one of the D days")                                                         \
+    X(BFIMAX_10_OUTSIDE, "bfimax", "refused 10, on another day alone")                                                 \
+    X(BFIMAX_10_NO_SPELL, "bfimax", "refused 10, where 24 holds too")                                                  \
+    X(BFIMAX_24_NO_DAY, "bfimax", "refused 24, no day in the list")                                                    \
+    X(BFIMAX_24_BEHIND, "bfimax", "refused 24, last day behind the list")                                              \
+    X(BFIMAX_24_BEHIND_NEXT, "bfimax", "refused 24, last day just behind the list")                                    \
+    X(BFIMAX_24_BEHIND_MOST, "bfimax", "refused 24, last day 2^32 - 1")                                                \
+    X(BFIMAX_24_BEFORE, "bfimax", "refused 24, D days begin before the list")                                          \
+    X(BFIMAX_24_BEFORE_NEXT, "bfimax", "refused 24, D days begin one day before the list")                             \
+    X(BFIMAX_24_LAST_0, "bfimax", "refused 24, last day 0")                                                            \
+    X(BFIMAX_24_LAST, "bfimax", "refused 24, last day missing")                                                        \
+    X(BFIMAX_24_FIRST, "bfimax", "refused 24, first of the D days missing")                                            \
+    X(BFIMAX_24_BETWEEN, "bfimax", "refused 24, a day between them missing")                                           \
+    X(BFIMAX_21, "bfimax", "refused 21, no day with flow in the list")                                                 \
+    X(BFIMAX_21_OUTSIDE, "bfimax", "refused 21, flow on another day")                                                  \
+    X(BFIMAX_D_2, "bfimax", "accepted, D 2")                                                                           \
+    X(BFIMAX_D_MOST, "bfimax", "accepted, D 3,650")                                                                    \
+    X(BFIMAX_P_1, "bfimax", "accepted, p 1")                                                                           \
+    X(BFIMAX_P_9999, "bfimax", "accepted, p 9999")                                                                     \
+    X(BFIMAX_ALL, "bfimax", "accepted, D days are the list")                                                           \
+    X(BFIMAX_FROM_START, "bfimax", "accepted, from the list's first day")                                              \
+    X(BFIMAX_TO_END, "bfimax", "accepted, up to the list's last day")                                                  \
+    X(BFIMAX_OTHERS, "bfimax", "accepted, flow on days on either side")                                                \
+    X(BFIMAX_GAP_BEFORE, "bfimax", "accepted, a missing day just before")                                              \
+    X(BFIMAX_GAP_BEHIND, "bfimax", "accepted, a missing day just behind")                                              \
+    X(BFIMAX_NEVER, "bfimax", "accepted, no day held to the flow")                                                     \
+    X(BFIMAX_ALWAYS, "bfimax", "accepted, each day before held to the flow")                                           \
+    X(BFIMAX_MIDDLE, "bfimax", "accepted, a day held, days on either side not")                                        \
+    X(BFIMAX_BARELY, "bfimax", "accepted, held to the flow by less than a litre")                                      \
+    X(BFIMAX_EQUAL, "bfimax", "accepted, quotient equal to the flow")                                                  \
+    X(BFIMAX_LARGE, "bfimax", "accepted, a quotient above 10^13")                                                      \
+    X(BFIMAX_HALF, "bfimax", "accepted, a quotient at a half")                                                         \
+    X(BFIMAX_DRY_LAST, "bfimax", "accepted, last day dry")                                                             \
+    X(BFIMAX_DRY_BETWEEN, "bfimax", "accepted, a dry day before one with a value")                                     \
+    X(BFIMAX_ANSWER_0, "bfimax", "accepted, BFImax 0")                                                                 \
+    X(BFIMAX_ANSWER_MOST, "bfimax", "accepted, BFImax 10,000")                                                         \
+    X(BFIMAX_ANSWER_HALF, "bfimax", "accepted, BFImax at a half")                                                      \
+    X(BFIMAX_MOST_DAYS, "bfimax", "accepted, 36,525 days")                                                             \
+    X(BFIMAX_LATE, "bfimax", "accepted, D 3,650 at the end of 36,525 days")
 
 #define AS_NUMBER(id, call, name) id,
 #define AS_ROW(id, call, name) {call, name, 0},
@@ -653,6 +702,126 @@ static void count_recession(const struct test_case *c, uint32_t answer, const st
     }
 }
 
+// ---- BFImax
+
+static void count_bad_day(const struct test_case *c)
+{
+    size_t end = (size_t)c->last_day + 1;
+    if (end > c->days_len || c->duration > end) {
+        hit(BFIMAX_10_NO_SPELL);
+        return;
+    }
+    int inside = 0;
+    for (size_t t = end - c->duration; t < end; t++)
+        inside |= c->days[t] > MOST_FLOW && c->days[t] != MISSING;
+    hit(inside ? BFIMAX_10 : BFIMAX_10_OUTSIDE);
+}
+
+static void count_no_spell(const struct test_case *c)
+{
+    size_t last = c->last_day;
+    if (last >= c->days_len) {
+        hit(BFIMAX_24_BEHIND);
+        hit_if(c->days_len == 0, BFIMAX_24_NO_DAY);
+        hit_if(last == c->days_len && last > 0, BFIMAX_24_BEHIND_NEXT);
+        hit_if(last == MISSING, BFIMAX_24_BEHIND_MOST);
+    } else if (c->duration > last + 1) {
+        hit(BFIMAX_24_BEFORE);
+        hit_if(c->duration == last + 2 && c->days[last] != MISSING, BFIMAX_24_BEFORE_NEXT);
+        hit_if(last == 0, BFIMAX_24_LAST_0);
+    } else {
+        int at_last = c->days[last] == MISSING, at_first = c->days[last + 1 - c->duration] == MISSING;
+        hit(at_last ? BFIMAX_24_LAST : at_first ? BFIMAX_24_FIRST : BFIMAX_24_BETWEEN);
+    }
+}
+
+// How the values of the D days, from place `first` on, came about.
+static void count_values(const struct test_case *c, size_t first, const uint64_t *base)
+{
+    size_t held = 0, part = 0; // going back: 1 from a day that is not held, 2 from one that then is, 3 from one not
+    int barely = 0, equal = 0, large = 0, half = 0, dry = 0;
+    for (size_t t = c->last_day; t-- > first;) {
+        uint64_t whole = 1000 * (uint64_t)c->days[t], dividend = 10000 * base[t + 1];
+        int over = dividend > c->p * whole, under = dividend < c->p * whole;
+        held += (size_t)over;
+        part += (part % 2 == 0 && under) || (part == 1 && over);
+        barely |= over && dividend < c->p * (whole + 1000);
+        equal |= !over && !under && whole > 0;
+        large |= dividend / c->p > 10000000000000;
+        half |= under && 2 * dividend % (2 * c->p) == c->p;
+        dry |= whole == 0 && base[t + 1] > 0;
+    }
+    hit_if(held == 0, BFIMAX_NEVER);
+    hit_if(held == c->last_day - first, BFIMAX_ALWAYS);
+    hit_if(part == 3, BFIMAX_MIDDLE);
+    hit_if(barely, BFIMAX_BARELY);
+    hit_if(equal, BFIMAX_EQUAL);
+    hit_if(large, BFIMAX_LARGE);
+    hit_if(half, BFIMAX_HALF);
+    hit_if(dry, BFIMAX_DRY_BETWEEN);
+    hit_if(c->days[c->last_day] == 0, BFIMAX_DRY_LAST);
+}
+
+// The flow of the days from one place to the one before another, missing ones left out.
+static uint64_t flow_between(const struct test_case *c, size_t from, size_t to)
+{
+    uint64_t total = 0;
+    for (size_t t = from; t < to; t++)
+        total += c->days[t] == MISSING ? 0 : c->days[t];
+    return total;
+}
+
+static void count_bfimax(const struct test_case *c, uint32_t answer, const struct outs *outs, const uint64_t *base)
+{
+    size_t end = (size_t)c->last_day + 1, first = end - c->duration;
+    uint64_t flow = 0, sum = 0;
+    switch (answer) {
+    case 12:
+        hit(c->p == 0 ? BFIMAX_12_LOW : BFIMAX_12_HIGH);
+        hit_if(c->p == 10000, BFIMAX_12_NEXT);
+        break;
+    case 23:
+        hit(c->duration == 0 ? BFIMAX_23_NONE : c->duration == 1 ? BFIMAX_23_ONE : BFIMAX_23_HIGH);
+        hit_if(c->duration == MOST_DURATION + 1, BFIMAX_23_NEXT);
+        break;
+    case 9:
+        hit(BFIMAX_9);
+        break;
+    case 14:
+        hit(c->base_len < c->days_len ? BFIMAX_14_SHORT : BFIMAX_14_LONG);
+        break;
+    case 10:
+        count_bad_day(c);
+        break;
+    case 24:
+        count_no_spell(c);
+        break;
+    case 21:
+        hit(flow_between(c, 0, c->days_len) > 0 ? BFIMAX_21_OUTSIDE : BFIMAX_21);
+        break;
+    default:
+        count_values(c, first, base);
+        flow = flow_between(c, first, end);
+        for (size_t t = first; t < end; t++)
+            sum += base[t];
+        hit_if(c->duration == 2, BFIMAX_D_2);
+        hit_if(c->duration == MOST_DURATION, BFIMAX_D_MOST);
+        hit_if(c->p == 1, BFIMAX_P_1);
+        hit_if(c->p == 9999, BFIMAX_P_9999);
+        hit_if(c->duration == c->days_len, BFIMAX_ALL);
+        hit_if(first == 0, BFIMAX_FROM_START);
+        hit_if(end == c->days_len, BFIMAX_TO_END);
+        hit_if(flow_between(c, 0, first) > 0 && flow_between(c, end, c->days_len) > 0, BFIMAX_OTHERS);
+        hit_if(first > 0 && c->days[first - 1] == MISSING, BFIMAX_GAP_BEFORE);
+        hit_if(end < c->days_len && c->days[end] == MISSING, BFIMAX_GAP_BEHIND);
+        hit_if(outs->small[0] == 0, BFIMAX_ANSWER_0);
+        hit_if(outs->small[0] == 10000, BFIMAX_ANSWER_MOST);
+        hit_if(20 * sum % (2 * flow) == flow, BFIMAX_ANSWER_HALF);
+        hit_if(c->days_len == MOST_DAYS, BFIMAX_MOST_DAYS);
+        hit_if(end == MOST_DAYS && c->duration == MOST_DURATION, BFIMAX_LATE);
+    }
+}
+
 void count_branch(const struct test_case *c, uint32_t answer, const struct outs *outs, const uint64_t *base)
 {
     switch (c->call) {
@@ -675,7 +844,10 @@ void count_branch(const struct test_case *c, uint32_t answer, const struct outs 
     case TOTALS:
         count_totals(c, answer, outs);
         break;
-    default:
+    case RECESSION:
         count_recession(c, answer, outs);
+        break;
+    default:
+        count_bfimax(c, answer, outs, base);
     }
 }

@@ -26,7 +26,8 @@
 enum list { BYTES, DAYS, BASE, LIMBS, LISTS };
 enum { GUARD = 64, GUARD_BYTE = 0x5a };
 
-static const char *const call_names[CALLS] = {"read", "filter", "step", "steps", "line", "totals", "recession"};
+static const char *const call_names[CALLS] = {"read", "filter", "step", "steps", "line", "totals", "recession",
+                                             "bfimax"};
 static const char *const list_names[LISTS] = {"bytes", "days", "base", "limbs"};
 static const size_t widths[LISTS] = {1, 4, 8, 4};
 
@@ -61,8 +62,8 @@ static const void *content(const struct test_case *c, enum list list)
 
 static int may_write(enum call call, enum list list)
 {
-    return (call == READ && list == DAYS) || ((call == FILTER || call == LINE) && list == BASE) ||
-           (call == RECESSION && list == LIMBS);
+    return (call == READ && list == DAYS) || (call == RECESSION && list == LIMBS) ||
+           ((call == FILTER || call == LINE || call == BFIMAX) && list == BASE);
 }
 
 // ---- the calls of each side, with out-parameters in fixed places
@@ -84,6 +85,9 @@ static int may_write(enum call call, enum list list)
         case RECESSION:                                                                                                \
             return prefix##recession(c->limb_days, lists[DAYS], c->days_len, lists[LIMBS], c->limbs_len, &small[0],    \
                                      &small[1]);                                                                       \
+        case BFIMAX:                                                                                                   \
+            return prefix##bfimax(c->last_day, c->duration, c->p, lists[DAYS], c->days_len, lists[BASE], c->base_len,  \
+                                  &small[0]);                                                                          \
         default:                                                                                                       \
             return prefix##step(c->method, c->p, c->q, c->s, c->day, &small[0], &small[1], &large[0], &large[1]);      \
         }                                                                                                              \
@@ -242,6 +246,8 @@ static void cut(struct test_case *c, enum list list, size_t at, size_t count)
     size_t width = widths[list], behind = length(c, list) - at - count;
     memmove(from + at * width, from + (at + count) * width, behind * width);
     *length_of(c, list) -= count;
+    if (list == DAYS && at + count <= c->last_day && c->last_day < c->days_len + count)
+        c->last_day -= (uint32_t)count; // the same day, at its new place
 }
 
 static int cut_pieces(enum list list, int with_base)
@@ -277,6 +283,19 @@ static int lower_days(void)
     return better;
 }
 
+static int shorten(void)
+{
+    int better = 0;
+    const uint32_t duration = smallest.duration, shorter[] = {2, duration / 2, duration - 1};
+    for (size_t i = 0; i < sizeof shorter / sizeof *shorter && smallest.call == BFIMAX; i++) {
+        copy(&attempt, &smallest);
+        attempt.duration = shorter[i];
+        if (shorter[i] < smallest.duration && keep())
+            better = 1;
+    }
+    return better;
+}
+
 static void shrink(const struct test_case *c)
 {
     copy(&smallest, c);
@@ -287,7 +306,7 @@ static void shrink(const struct test_case *c)
             better |= cut_pieces(DAYS, 1);
         else
             better |= cut_pieces(DAYS, 0) | cut_pieces(BASE, 0);
-        better |= lower_days();
+        better |= lower_days() | shorten();
     }
 }
 
@@ -327,6 +346,8 @@ static void print_outs(enum call call, const struct outs *o)
     if (call == TOTALS)
         printf(" base_days %" PRIu32 ", flow_total %" PRIu64 ", base_total %" PRIu64 ", quick_total %" PRIu64
                ", index %" PRIu32, o->small[0], o->large[0], o->large[1], o->large[2], o->small[1]);
+    if (call == BFIMAX)
+        printf(" bfimax %" PRIu32, o->small[0]);
     if (call == RECESSION)
         printf(" ratio_count %" PRIu32 ", ratio %" PRIu32, o->small[0], o->small[1]);
     putchar('\n');
@@ -344,6 +365,8 @@ static void print_arguments(const struct test_case *c)
         printf("  block_days %" PRIu32 ", factor %" PRIu32 "\n", c->block_days, c->factor);
     if (c->call == RECESSION)
         printf("  limb_days %" PRIu32 "\n", c->limb_days);
+    if (c->call == BFIMAX)
+        printf("  last_day %" PRIu32 ", duration %" PRIu32 ", p %" PRIu32 "\n", c->last_day, c->duration, c->p);
     for (enum list list = 0; list < LISTS; list++)
         if (length(c, list) > 0)
             print_list(c, list, content(c, list));

@@ -8,10 +8,10 @@
 #define MISSING UINT32_MAX
 #define NO_VALUE UINT64_MAX
 
-enum { MOST_FLOW = 10000000, MOST_DAYS = 36525, MOST_FIRST_DAY = 99999 };
+enum { MOST_FLOW = 10000000, MOST_DAYS = 36525, MOST_FIRST_DAY = 99999, MOST_DURATION = 3650 };
 
 // STEPS is no call of its own: daily steps from a fresh state over a day list, held to pass 1 of the filter.
-enum call { READ, FILTER, STEP, STEPS, LINE, TOTALS, RECESSION, CALLS };
+enum call { READ, FILTER, STEP, STEPS, LINE, TOTALS, RECESSION, BFIMAX, CALLS };
 
 // The room that a case has for each list, in elements.
 enum { ROOM_BYTES = 6 * MOST_DAYS, ROOM_DAYS = MOST_DAYS + 100 };
@@ -25,11 +25,12 @@ struct outs {
 // The arguments of one call. Lists and out-parameters that it writes have their content before the call here.
 struct test_case {
     enum call call;
-    uint32_t method, p, q, passes; // FILTER, STEP and STEPS
-    int32_t s;                     // the same
+    uint32_t method, p, q, passes; // FILTER, STEP and STEPS; p also BFIMAX
+    int32_t s;                     // FILTER, STEP and STEPS
     uint32_t day;                  // STEP
     uint32_t block_days, factor;   // LINE
     uint32_t limb_days;            // RECESSION
+    uint32_t last_day, duration;   // BFIMAX
     struct outs outs;              // STEP: has_yesterday small[0], flow small[1], base large[0]
     size_t bytes_len, days_len, base_len, limbs_len;
     uint8_t bytes[ROOM_BYTES];

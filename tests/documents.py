@@ -57,8 +57,8 @@ def figures(write):
     loose = [line for line in MADE.sub("", PAGE.read_text()).splitlines() if re.search(r"\d\.\d", line)]
     if loose:
         fail(f"{PAGE.name} has a figure that no script makes: {loose[0]}")
-    if parts < 5:
-        fail(f"{parts} parts are made by scripts, where 5 are wanted")
+    if parts < 6:
+        fail(f"{parts} parts are made by scripts, where 6 are wanted")
     print(f"documents: {parts} parts are as their scripts print them")
 
 

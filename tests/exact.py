@@ -1,13 +1,15 @@
 #!/usr/bin/env python3
-"""Measures demand 3 through the C interface: the rounded run against an independent run in exact fractions.
+"""Measures demand 3 and BFImax through the C interface: the rounded run against one in exact fractions.
 
     tests/exact.py
 
 Each record is read, separated, stepped through day by day and totalled by the engine (include/baseflow.h). The days
 and the setting are worked out anew with fractions: document 01's rules, near left out. It fails with a message where a
-figure lies outside its limit, a day has a value in one run only, or a refusal is not the one that the rules give. It
-prints the largest share of each limit that was reached, and keeps that in target/tests/exact.txt, from which the page of
-guarantees takes its figures. Document 01's worked rivers are held to its figures first.
+figure lies outside its limit, a day has a value in one run only, or a refusal is not the one that the rules give.
+BFImax has runs of its own: the limit of each of its values counts the days up to the next one behind it on which both
+runs have the whole flow. It prints the largest share of each limit that was reached, and keeps that in
+target/tests/exact.txt, from which the page of guarantees takes its figures. Document 01's worked rivers are held to its
+figures first.
 """
 import random
 import sys
@@ -21,6 +23,7 @@ HALF = Fraction(1, 2)
 LINE = "line"  # stands for the block-minima line where a method is asked for
 METHODS = (1, 2, 3, 4, 5, 6, 7)
 LEAST_RUNS = 1500
+LATER = 10  # days from a value of BFImax to the one that its limit counts from, at least, for its second share
 
 
 def refusal(method, p, q, s, n, days):
@@ -172,6 +175,73 @@ def measure(engine, setting, first, stated, shares):
     shares.within("index", index, 10 * T_exact / Y, HALF + 10 * m * limit / Y)
 
 
+# "BFImax": 13.5, 13.6
+def recession(rng, p, days):
+    """A river that keeps close to the rule: each flow is about the following day's value divided by p / 10000."""
+    value, river = Fraction(1000 * rng.randrange(1, 500)), []
+    for _ in range(days):
+        flow = min(10_000_000, max(0, value // 1000 + rng.choice((-1, 0, 1, 1, 1, 30))))
+        river.append(flow)
+        value = min(value, 1000 * flow) * 10000 // p
+    return river[::-1]
+
+
+def bfimax_cases():
+    rng = random.Random(2026)
+    usual = (9500, 9700, 9800, 9900)
+    for name, river in rivers(rng):
+        for p in (*usual, 9999, 6400, 5000, 1, *(rng.randrange(1, 10000) for _ in range(4))):
+            last = rng.randrange(max(1, len(river)))
+            yield name, (len(river) - 1) % 2**32, len(river), p, river
+            yield name, last, min(last + 1, 365), p, river
+            yield name, last, rng.randrange(2, 6), p, river
+    for p in (*usual, 9990, 9999, 9250):
+        for days in (5, 30, 60, 60, 200):
+            yield "a recession", days - 1, days, p, recession(rng, p, days)
+            yield "a flood that nothing holds", days - 1, days, p, [10_000_000] * (days - 1) + [rng.randrange(1, 50)]
+    yield "every rounding goes one way", 10, 11, 3333, [10_000_000] * 10 + [5]
+    for _ in range(600):
+        p = rng.choice((rng.choice(usual), rng.randrange(9000, 10000), rng.randrange(1, 10000)))
+        river = recession(rng, p, rng.randrange(2, 90))
+        last = rng.randrange(1, len(river))
+        yield "a recession", last, rng.randrange(2, last + 2), p, river
+    full = storms(rng, 36525, 0)
+    for last in (3649, 20_000, 36_524):
+        yield "36,525 days", last, 3650, 9700, full
+    for last, duration, p in ((0, 2, 9700), (1, 2, 9700), (2, 3, 9700), (2, 4, 9700), (3, 2, 9700),
+                              (2**32 - 1, 2, 9700), (2, 0, 9700), (2, 1, 9700), (2, 3650, 9700), (2, 3651, 9700),
+                              (2, 3, 0), (2, 3, 10000)):
+        yield "three days", last, duration, p, [5, 4, 6]
+        yield "three days", last, duration, p, [0, 0, 0]
+        yield "three days", last, duration, p, [5, None, 6]
+
+
+def measure_bfimax(engine, last, duration, p, days, shares):
+    """Whether it was accepted."""
+    number, given = refused(engine.bfimax, last, duration, p, days)
+    wanted = rules.bad_bfimax(last, duration, p, days, len(days))
+    assert number == wanted, f"BFImax answers {number}, where {wanted} is due"
+    if wanted is not None:
+        return False
+    answer, base = given
+    assert given == rules.bfimax_over(rules.near, last, duration, p, days), f"other values than the rule gives: {given}"
+    assert 0 <= answer <= 10000, f"BFImax {answer}"
+    _, exact = rules.bfimax_over(Fraction, last, duration, p, days)
+    limit, since = Fraction(0), 0
+    for t in range(last, last - duration, -1):
+        flow, value, fraction = 1000 * days[t], base[t], exact[t]
+        assert 0 <= value <= flow and 0 <= fraction <= flow, f"{value} and {fraction} at place {t}, of {flow}"
+        if value == fraction == flow:
+            limit, since = Fraction(0), 0
+            continue
+        limit, since = limit * 10000 / p + HALF, since + 1
+        assert since > 20 or limit == rules.stretched(p, since)
+        shares.within("BFImax", value, fraction, limit)
+        if since >= LATER:
+            shares.within(f"BFImax {LATER} days back and more", value, fraction, limit)
+    return True
+
+
 # document 01, "Rivers worked through": rule 8.1
 def worked_rivers(engine):
     line = [None, 8000, 8333, 8667, 9000, None]
@@ -208,6 +278,13 @@ def worked_rivers(engine):
         ("L 4", refused(engine.recession, 4, [100, 90, 81])[0], 19),
         ("the longest limb first", engine.recession(2, [9, 8, 9, 8, 7, 9, 8]), (4, 8889, [(2, 3), (0, 2), (5, 2)])),
         ("lower middle", engine.recession(3, [100, 50, 40]), (2, 5000, [(0, 3)])),
+        ("BFImax, held to the flow in the middle", engine.bfimax(4, 5, 9000, [30, 12, 10, 20, 9]),
+         (6476, [12346, 11111, 10000, 10000, 9000])),
+        ("BFImax, never held to the flow", engine.bfimax(4, 4, 9500, [7, 100, 80, 50, 30, None]),
+         (4993, [None, 34991, 33241, 31579, 30000, None])),
+        ("BFImax, a dry last day", engine.bfimax(2, 3, 9500, [5, 0, 0, 7]), (0, [0, 0, 0, None])),
+        ("BFImax, no flow", refused(engine.bfimax, 2, 2, 9500, [5, 0, 0, 7])[0], 21),
+        ("BFImax, a half", engine.bfimax(1, 2, 6400, [2, 1]), (8543, [1563, 1000])),
         ("zero days", engine.read(bytes.fromhex("01 00000000 09 00000000")), (0, [])),
         ("no bytes", refused(engine.read, b"")[0], 1),
     ]
@@ -228,8 +305,15 @@ def main():
         runs += 1
     if runs < LEAST_RUNS:
         sys.exit(f"{runs} runs, where at least {LEAST_RUNS} are wanted")
+    bfimax_runs = 0
+    for name, last, duration, p, days in bfimax_cases():
+        try:
+            bfimax_runs += measure_bfimax(engine, last, duration, p, days, shares)
+        except AssertionError as wrong:
+            sys.exit(f"river '{name}', BFImax with last day {last}, D {duration}, p {p}: {wrong}")
     lines = [f"exact: {runs} runs through the C interface lie within their limits; the largest share of each:"]
     lines += [f"  {figure}: {float(share):.3f}" for figure, share in sorted(shares.reached.items())]
+    lines.append(f"exact: {bfimax_runs} further runs, of BFImax, lie within theirs")
     (products() / "exact.txt").write_text("\n".join(lines) + "\n")
     print("\n".join(lines))
 

@@ -1,6 +1,6 @@
 // The generator of the differential runs. It aims at the edges of document 01: limits and their neighbours, marks,
-// ties, falls through gaps, dry spells, limbs of chosen lengths, full lists, lists of different lengths, and records
-// damaged by cutting, flipping and inserting.
+// ties, falls through gaps, dry spells, limbs of chosen lengths, recessions as BFImax sees them, full lists, lists of
+// different lengths, and records damaged by cutting, flipping and inserting.
 #include <string.h>
 
 #include "differential.h"
@@ -283,6 +283,68 @@ static void make_recession(struct test_case *c)
         c->limbs[i] = (uint32_t)draw();
 }
 
+// ---- BFImax
+
+// A river that keeps close to the rule: going back from the list's last day, a flow is about what the following day's
+// value divided by p / 10000 comes to, in whole litres. With a litre less it is held to its flow, with one more it is
+// not.
+static void fill_backwards(struct test_case *c)
+{
+    uint32_t mood = below(4), flow = one_in(2) ? below(4) : below(one_in(4) ? MOST_FLOW + 1 : 3000);
+    c->days_len = one_in(60) ? between(MOST_DURATION - 2, MOST_DURATION + 3) : day_list_length();
+    uint64_t value = 1000 * (uint64_t)flow;
+    for (size_t t = c->days_len; t-- > 0;) {
+        c->days[t] = flow;
+        value = 1000 * (uint64_t)flow < value ? 1000 * (uint64_t)flow : value;
+        uint64_t litres = 10 * value / c->p + (mood < 2 ? mood : mood == 2 ? below(2) : below(one_in(20) ? 3000 : 4));
+        litres -= mood == 3 && litres > 0 && one_in(4);
+        flow = litres < MOST_FLOW ? (uint32_t)litres : MOST_FLOW;
+        value = 10000 * value / c->p;
+    }
+    if (one_in(4) && c->days_len > 0)
+        c->days[below((uint32_t)c->days_len)] = MISSING;
+    spoil_day(c);
+}
+
+// The D days: within a stretch, up to its ends, or a day beyond them.
+static void choose_spell(struct test_case *c)
+{
+    uint32_t count = (uint32_t)c->days_len, start = count > 0 ? below(count) : 0, end = start;
+    while (start > 0 && c->days[start - 1] != MISSING)
+        start--;
+    while (end < count && c->days[end] != MISSING)
+        end++;
+    c->last_day = start == end ? start : one_in(2) ? end - 1 : between(start, end - 1);
+    if (one_in(20))
+        c->last_day++;
+    uint32_t most = c->last_day + 1 - start;
+    if (most > MOST_DURATION && one_in(2))
+        most = between(MOST_DURATION - 1, MOST_DURATION);
+    c->duration = most < 2 || one_in(2) ? most : between(2, most < MOST_DURATION ? most : MOST_DURATION);
+    if (one_in(20))
+        c->duration++;
+    if (c->duration < 2 && !one_in(20))
+        c->duration = between(2, 3);
+}
+
+static void make_bfimax(struct test_case *c)
+{
+    c->p = one_in(2) ? AMONG(1, 2, 9999, 9998, 5000, 6400, 256, 9700) : between(one_in(2) ? 9000 : 1, 9999);
+    if (one_in(2))
+        fill_backwards(c);
+    else
+        fill_days(c);
+    fill_base(c);
+    choose_spell(c);
+    if (spoil())
+        c->p = AMONG(0, 10000, 10001, MISSING, 0x80000001);
+    if (spoil())
+        c->duration = AMONG(0, 1, MOST_DURATION + 1, MOST_DURATION + 2, 65538, 0x80000002, MISSING);
+    if (spoil())
+        c->last_day = one_in(2) ? (uint32_t)c->days_len
+                                : AMONG(0, MISSING, MISSING - 1, 0x80000000, c->last_day + 65536);
+}
+
 // ---- records
 
 static void put(struct test_case *c, uint8_t kind, uint32_t value, size_t body)
@@ -410,7 +472,7 @@ void generate(struct test_case *c, uint64_t seed, uint64_t number)
 {
     static void (*const make[CALLS])(struct test_case *) = {
         [READ] = make_read,     [FILTER] = make_filter, [STEP] = make_step,           [STEPS] = make_steps,
-        [LINE] = make_line,     [TOTALS] = make_totals, [RECESSION] = make_recession,
+        [LINE] = make_line,     [TOTALS] = make_totals, [RECESSION] = make_recession, [BFIMAX] = make_bfimax,
     };
     state = seed << 40 ^ number;
     state = draw();
@@ -420,13 +482,14 @@ void generate(struct test_case *c, uint64_t seed, uint64_t number)
         c->outs.large[i] = draw();
     }
     rough = one_in(5);
-    uint32_t turn = below(20);
+    uint32_t turn = below(23);
     c->call = turn < 6    ? READ
               : turn < 10 ? FILTER
               : turn < 12 ? STEP
               : turn < 13 ? STEPS
               : turn < 15 ? LINE
               : turn < 17 ? TOTALS
-                          : RECESSION;
+              : turn < 20 ? RECESSION
+                          : BFIMAX;
     make[c->call](c);
 }

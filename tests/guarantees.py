@@ -3,6 +3,7 @@
 
     tests/guarantees.py table       P for usual settings
     tests/guarantees.py example     what P says of an index
+    tests/guarantees.py bfimax      how far a value of BFImax may lie from the exact one
     tests/guarantees.py measured    what tests/exact.py found when it was run last
 
 A limit is rounded up in its last place, and a figure that lies within a limit is rounded away from the middle, so that
@@ -26,6 +27,7 @@ USUAL = ((1, 9250, 0, 0, 1), (1, 9250, 0, 0, 2), (1, 9250, 0, 0, 3), (1, 9000, 0
          (5, 9780, 2500, 0, 1), (6, 9250, 0, 0, 1), (6, 9500, 0, 0, 1), (7, 9700, 300, -2000, 1),
          (7, 9500, 1000, -5000, 1))
 LINE_LIMIT = Fraction(1, 2)
+BFIMAX_P, BFIMAX_DAYS = (9500, 9700, 9800, 9900), (5, 10, 20, 60)
 CLOSE = Fraction(98, 100)  # a share of a limit that leaves no room for a much smaller one
 
 
@@ -71,22 +73,30 @@ def example():
            f"{down((index - around) / 10000, 4)} and {up((index + around) / 10000, 4)}.")
 
 
+def bfimax():
+    yield f"| p | {' | '.join(f'{days} days' for days in BFIMAX_DAYS)} |"
+    yield "|---" * (1 + len(BFIMAX_DAYS)) + "|"
+    for p in BFIMAX_P:
+        limits = (up(rules.stretched(p, days) / 1000, 4) for days in BFIMAX_DAYS)
+        yield f"| {p} | {' | '.join(limits)} |"
+
+
 def measured():
     path = products() / "exact.txt"
     if not path.exists():
         sys.exit(f"{path} is not there; `tests/exact.py` makes it")
     text = path.read_text()
-    runs = re.search(r"exact: (\d+) runs", text)[1]
+    runs, bfimax_runs = (re.search(rf"exact: (\d+) {what}", text)[1] for what in ("runs", "further runs, of BFImax"))
     shares = {figure: Fraction(share) for figure, share in re.findall(r"^  (.*): ([\d.]+)$", text, re.MULTILINE)}
     close = [figure for figure, share in shares.items() if share >= CLOSE]
     rest = [f"{figure} {float(share):.3f}" for figure, share in shares.items() if share < CLOSE]
-    yield (f"`tests/exact.py` works out {runs} runs anew. The largest share of a limit that was reached is at least "
-           f"{decimal(CLOSE, 2)} for {', '.join(close)}: there no much smaller limit would hold. For the others it is: "
-           f"{', '.join(rest)}.")
+    yield (f"`tests/exact.py` works out {runs} runs anew, and {bfimax_runs} of BFImax. The largest share of a limit "
+           f"that was reached is at least {decimal(CLOSE, 2)} for {', '.join(close)}: there no much smaller limit would "
+           f"hold. For the others it is: {', '.join(rest)}.")
 
 
 def main():
-    makers = {"table": table, "example": example, "measured": measured}
+    makers = {"table": table, "example": example, "bfimax": bfimax, "measured": measured}
     if len(sys.argv) != 2 or sys.argv[1] not in makers:
         sys.exit(__doc__)
     print("\n".join(makers[sys.argv[1]]()))

@@ -110,6 +110,13 @@ class Engine:
                   ctypes.byref(count), ctypes.byref(ratio))
         return count.value, ratio.value, [pair for pair in zip(limbs[::2], limbs[1::2]) if pair != (0, 0)]
 
+    def bfimax(self, last_day, duration, p, days):
+        """BFImax and the base list."""
+        base, answer = listed(ctypes.c_uint64, [0] * len(days)), ctypes.c_uint32()
+        self.call("bfimax", *map(ctypes.c_uint32, (last_day, duration, p)), day_list(days), size(days), base,
+                  size(days), ctypes.byref(answer))
+        return answer.value, base_values(base, days)
+
 
 def setting(method, p, q, s):
     return *map(ctypes.c_uint32, (method, p, q)), ctypes.c_int32(s)

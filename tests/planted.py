@@ -22,6 +22,9 @@ BY_FIRST_DAY = "(left->first_day > right->first_day) - (left->first_day < right-
 SORT = "qsort(found, limb_count, sizeof *found, by_list_order);"
 LIMBS_TEST = "if (limbs_len < 2 * limb_count)"
 MEDIAN = "uint32_t place = 0, below = counts[0];"
+SPELL_TEST = "if (!are_present(days, days_len, last_day, duration)) return 24;"
+NO_FLOW_TEST = "if (Y == 0) return 21; for"
+BACKWARDS = "value = smaller(1000 * (uint64_t)days[t], near(10000 * value, p));"
 
 FAULTS = (
     ("halves go down", "(a + b / 2) / b", "(a + (b - 1) / 2) / b"),
@@ -98,6 +101,19 @@ FAULTS = (
      f"for (size_t i = 2 * limb_count; i < limbs_len; i++) *limbs++ = 0; {MEDIAN}"),
     ("limbs are written before 22", LIMBS_TEST, f"if (limbs_len > 0) *limbs = found[0].first_day; {LIMBS_TEST}"),
     ("k is written before 22", LIMBS_TEST, f"*ratio_count = k; {LIMBS_TEST}"),
+    ("the D days end before the last day", SPELL_TEST, f"last_day -= 1; {SPELL_TEST}"),
+    ("the last day's place counts from 1", "if (!within(p, 1, 9999)) return 12; if (!within(duration",
+     "last_day -= last_day > 0; if (!within(p, 1, 9999)) return 12; if (!within(duration"),
+    ("a backward value is rounded down", BACKWARDS, "value = smaller(1000 * (uint64_t)days[t], 10000 * value / p);"),
+    ("a backward value may be above the flow", BACKWARDS, "value = near(10000 * value, p);"),
+    ("only the written value is held to the flow", f"{BACKWARDS} base[t] = value;",
+     "value = near(10000 * value, p); base[t] = smaller(1000 * (uint64_t)days[t], value);"),
+    ("values of other days are kept", "for (size_t t = last_day + 1; t < days_len; t++) base[t] = NO_VALUE;", ""),
+    ("24 before 10", f"{DAYS_TEST} {SPELL_TEST}", f"{SPELL_TEST} {DAYS_TEST}"),
+    ("BFImax by the flow of all days", "for (size_t t = first_day; t <= last_day; t++) Y += days[t];",
+     "for (size_t t = 0; t < days_len; t++) Y += days[t] == MISSING ? 0 : days[t];"),
+    ("a value is written before 21", f"{NO_FLOW_TEST} (size_t t = 0; t < first_day;",
+     f"base[last_day] = 0; {NO_FLOW_TEST} (size_t t = 0; t < first_day;"),
 )
 
 

@@ -18,7 +18,7 @@ VARIANT = re.compile(r"^    // (\d+): (.*)$", re.MULTILINE)
 def main():
     entries = ENTRY.findall((ROOT / "include/baseflow.h").read_text())
     numbers = [int(number) for _, number, _ in entries]
-    if numbers != list(range(1, len(numbers) + 1)) or len(numbers) < 22:
+    if numbers != list(range(1, len(numbers) + 1)) or len(numbers) < 24:
         sys.exit(f"include/baseflow.h has the refusals {numbers}")
     causes = [(number, cause.replace(" * ", " × ")) for _, number, cause in entries]
     rules = (ROOT / "docs/RULES.md").read_text()

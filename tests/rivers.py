@@ -60,6 +60,15 @@ def totals_call(days, base):
     return cause or rules.totals(views(days), [None if b == NO_VALUE else b for b in base])
 
 
+def bfimax_call(last_day, duration, p, days, base):
+    cause = rules.bad_bfimax(last_day, duration, p, views(days), len(base))
+    if cause:
+        return cause
+    found, values = rules.bfimax_over(near, last_day, duration, p, views(days))
+    base[:] = marks(values)
+    return (found,)
+
+
 def ratios_call(limb_days, days, limbs):
     if not 2 <= limb_days <= 60:
         return Refusal(18)
@@ -151,6 +160,11 @@ def show_line(block_days, factor, days, base):
     out.append(words('line', block_days, factor) + answer(cause, 'accepted') + base_text(base))
 
 
+def show_bfimax(last_day, duration, p, days, base):
+    result = bfimax_call(last_day, duration, p, days, base)
+    out.append(words('bfimax', last_day, duration, p) + answer(result, 'found') + base_text(base))
+
+
 def show_totals(days, base):
     result = totals_call(days, base)
     out.append('totals' + answer(result, 'summed'))
@@ -198,6 +212,8 @@ def thirty_years(seed, gaps):
         show_totals(days, base)
     for limb_days in (2, 5, 10, 60):
         show_ratios(limb_days, days, [0] * 8192)
+    for spell in ((10_956, 60, 9800), (5000, 3650, 9500), (29, 30, 9999)):
+        show_bfimax(*spell, days, base)
 
 
 def full_record():
@@ -211,6 +227,7 @@ def full_record():
     show_totals(days, base)
     show_line(5, 9000, days, base)
     show_totals(days, base)
+    show_bfimax(36_524, 3650, 9780, days, base)
 
 
 def refusals():
@@ -243,8 +260,12 @@ def refusals():
     show_ratios(3, days, limbs)
     show_totals(days, base)
     show_totals(days, [0, 0, 90_001, 0])
+    days, base = [100, 0, 0, MISSING], [7] * 4
+    for spell in ((2, 2, 0), (2, 1, 9500), (2, 3651, 9500), (4, 2, 9500), (0, 2, 9500), (3, 2, 9500), (2, 2, 9500),
+                  (2, 3, 9500)):
+        show_bfimax(*spell, days, base)
     seen = {line.split(': refused ')[1].split(',')[0] for line in out if ': refused ' in line}
-    assert seen == {str(n) for n in range(1, 23)}, seen
+    assert seen == {str(n) for n in range(1, 25)}, seen
 
 
 def published():

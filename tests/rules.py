@@ -4,6 +4,7 @@ Whole numbers of any size; a missing day and a day without a value are None. `ov
 Fraction for the exact one. A call answers its values, or the number of its refusal as a Refusal. The sections are those
 of docs/RULES.md, with its numbers.
 """
+from fractions import Fraction
 
 MOST_DAYS, MOST_FLOW, LAST_FIRST_DAY = 36525, 10_000_000, 99_999
 BODIES = {1: 4, 2: 4, 3: 0, 4: 2, 9: 4}
@@ -192,3 +193,50 @@ def counted_limbs(limb_days, days):
 
 def ratios(limbs):
     return sorted(near(10000 * b, a) for _, flows in limbs for a, b in zip(flows, flows[1:]))
+
+
+# "BFImax": 13.1 to 13.6
+def spell(last_day, duration, days):
+    """The flows of the D days; None where one of them is missing or not in the list."""
+    first = last_day + 1 - duration
+    if first < 0 or last_day >= len(days) or None in days[first:last_day + 1]:
+        return None
+    return days[first:last_day + 1]
+
+
+def backwards(over, p, flows):
+    """The values of the D days."""
+    values = [1000 * flows[-1]]
+    for flow in flows[-2::-1]:
+        values.append(min(1000 * flow, over(10000 * values[-1], p)))
+    return values[::-1]
+
+
+def bad_bfimax(last_day, duration, p, days, base_len):
+    """The first cause to refuse, or None."""
+    if not 1 <= p <= 9999:
+        return Refusal(12)
+    if not 2 <= duration <= 3650:
+        return Refusal(23)
+    if len(days) > MOST_DAYS:
+        return Refusal(9)
+    if base_len != len(days):
+        return Refusal(14)
+    if any(flow is not None and flow > MOST_FLOW for flow in days):
+        return Refusal(10)
+    flows = spell(last_day, duration, days)
+    return Refusal(24) if flows is None else Refusal(21) if sum(flows) == 0 else None
+
+
+def bfimax_over(over, last_day, duration, p, days):
+    """The answer and the base list of arguments that pass their checks."""
+    flows = spell(last_day, duration, days)
+    values = backwards(over, p, flows)
+    first = last_day + 1 - duration
+    base = [None] * first + values + [None] * (len(days) - 1 - last_day)
+    return over(10 * sum(values), sum(flows)), base
+
+
+def stretched(p, j):
+    """How far a value may lie from the exact one, j days before a day on which both are 1000 × y: 13.5."""
+    return sum(Fraction(10000, p)**i for i in range(j)) / 2

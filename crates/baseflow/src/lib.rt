@@ -13,6 +13,7 @@ ghost use Rattle.record.specs.Call.{reading, replyOf, readLeaves};
 ghost use Rattle.filter.specs.Call.{filterCauses, filterLeaves, stepRule};
 ghost use Rattle.minima.specs.Call.{lineCauses, lineLeaves};
 ghost use Rattle.totals.specs.Call.{totalsOutcome};
+ghost use Rattle.bfimax.specs.Call.{spellOf, bfimaxOutcome, bfimaxLeaves};
 ghost use Rattle.recession.specs.Call.{ratioOutcome, ratioLeaves};
 ghost use Rattle.baseflow.specs.Interface.{returned, returnedCause, handedOut, settingOf, lineSettingOf, stateOf, stateNumbers, valueOut, stateOut};
 
@@ -108,6 +109,30 @@ pub extern "C" fn baseflow_totals(
             *base_total = t.base;
             *quick_total = t.quick;
             *index = t.index;
+            0
+        }
+    }
+}
+
+// BFImax of the D days that end on the last day.
+#[no_mangle]
+pub extern "C" fn baseflow_bfimax(
+    last_day: u32,
+    duration: u32,
+    p: u32,
+    days: &[u32],
+    base: &mut [u64],
+    bfimax: &mut u32,
+) -> u32
+    ensures { λ r. ⌜ r ≡ returned (bfimaxOutcome (spellOf «last_day» duration p) (now (days .entry)) (now (base .entry))) ⌝ }
+    ensures { λ _. ⌜ now (base .exit) ≡ bfimaxLeaves (spellOf «last_day» duration p) (now (days .entry)) (now (base .entry)) ⌝ }
+    ensures { λ _. ⌜ now (bfimax .exit) ≡ handedOut (λ q. q) (bfimaxOutcome (spellOf «last_day» duration p) (now (days .entry)) (now (base .entry))) (now (bfimax .entry)) ⌝ }
+{
+    let answer = bfimax::bfimax(last_day, duration, p, days, base);
+    match answer {
+        bfimax::Answer::Refused(refusal) => refusal.number(),
+        bfimax::Answer::Found(found) => {
+            *bfimax = found;
             0
         }
     }

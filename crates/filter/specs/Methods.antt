@@ -81,7 +81,7 @@ unfoldable pub unknownMethod : Setting → Bool
 unfolding within
 unknownMethod s = not (within 1 7 (s .method))
 
--- 12: p, q or s outside the range of its method
+-- 12: p, q or s outside its range
 unfoldable pub outOfRange : Setting → Bool
 outOfRange s = not (inRange s)
 

@@ -220,6 +220,37 @@ close-least {p} {m} {n} {f} {g} h k = go (leZ (f .upper *ℤ pos (L g)) (g .uppe
     go true e = at-least (leZ-yes (subst T (sym e) tt)) h k
     go false e = subst (λ x. Close p x g) (min-comm n m) (at-least (otherwise _ _ e) k h)
 
+-- the smaller of two is at most the first, and is not below zero where neither is
+pub least-left : (f g : Fraction) → AtMost (least f g) f
+unfolding least
+least-left f g = go (leZ (f .upper *ℤ pos (L g)) (g .upper *ℤ pos (L f))) refl
+  where
+    go : (t : Bool) → leZ (f .upper *ℤ pos (L g)) (g .upper *ℤ pos (L f)) ≡ t → AtMost (cond t f g) f
+    go true e = in-naturals f f .1 (omega arith)
+    go false e = otherwise _ _ e
+
+pub zero-least : (f g : Fraction) → AtMost (whole 0) f → AtMost (whole 0) g → AtMost (whole 0) (least f g)
+unfolding least
+zero-least f g h k = go (leZ (f .upper *ℤ pos (L g)) (g .upper *ℤ pos (L f)))
+  where
+    go : (t : Bool) → AtMost (whole 0) (cond t f g)
+    go true = h
+    go false = k
+
+pub zero-whole : (n : ℕ) → AtMost (whole 0) (whole n)
+unfolding whole
+zero-whole n = in-naturals (whole 0) (whole n) .1 (omega arith)
+
+pub zero-multiple : (k : ℕ) (f : Fraction) → AtMost (whole 0) f → AtMost (whole 0) (multiple k f)
+unfolding whole multiple
+zero-multiple k f h =
+    in-naturals (whole 0) (multiple k f) .1 (omega (arith, up-of-multiple (f .upper) k, down-of-multiple (f .upper) k, mul-le-mul-right k (in-naturals (whole 0) f .0 h)))
+
+pub zero-quotient : (d : ℕ) (f : Fraction) → AtMost (whole 0) f → AtMost (whole 0) (quotient f d)
+unfolding whole quotient
+zero-quotient zero f h = zero-whole 0
+zero-quotient (suc d) f h = in-naturals (whole 0) (quotient f (suc d)) .1 (omega (arith, in-naturals (whole 0) f .0 h))
+
 -- a larger limit
 pub close-weaken : {p q : Fraction} {n : ℕ} {f : Fraction} → AtMost p q → Close p n f → Close q n f
 close-weaken {p} {q} {n} {f} h k =

@@ -76,6 +76,18 @@ pub fn line_and_totals(block_days: u32, factor: u32, days: &[u32], base: &mut [u
     totals(days, base);
 }
 
+pub fn bfimax(last_day: u32, duration: u32, p: u32, days: &[u32], base: &mut [u64]) {
+    show::named(b"bfimax", last_day as u64);
+    show::number(duration as u64);
+    show::number(p as u64);
+    let answer = bfimax::bfimax(last_day, duration, p, days, base);
+    match answer {
+        bfimax::Answer::Refused(refusal) => show::refusal(refusal),
+        bfimax::Answer::Found(found) => show::named(b": found", found as u64),
+    }
+    show::base_list(base);
+}
+
 pub fn ratios(limb_days: u32, days: &[u32], limbs: &mut [u32]) {
     show::named(b"ratios", limb_days as u64);
     let answer = recession::ratios(limb_days, days, limbs);

@@ -57,7 +57,14 @@ fn all_limbs(days: &[u32]) {
     limbs(60, days);
 }
 
-// Thirty years of days through every method and number of passes, the daily step, the line and the ratios.
+// Spells at the end of thirty years, in their middle and at their start.
+fn spells(days: &[u32], base: &mut [u64]) {
+    calls::bfimax(10_956, 60, 9800, days, base);
+    calls::bfimax(5000, 3650, 9500, days, base);
+    calls::bfimax(29, 30, 9999, days, base);
+}
+
+// Thirty years of days through every method and number of passes, the daily step, the line, the ratios and BFImax.
 fn thirty_years(seed: u32, gaps: u32) {
     let mut days = [0u32; 10957];
     let mut base = [0u64; 10957];
@@ -68,6 +75,7 @@ fn thirty_years(seed: u32, gaps: u32) {
     all_steps(&days);
     lines(&days, &mut base);
     all_limbs(&days);
+    spells(&days, &mut base);
 }
 
 // Writes the record of a day list and reads it back into the same list.
@@ -87,6 +95,7 @@ fn full_record() {
     read_back(&mut bytes, &mut days);
     calls::filter_and_totals(calls::plain(1, 9250, 0), 3, &days, &mut base);
     calls::line_and_totals(5, 9000, &days, &mut base);
+    calls::bfimax(36_524, 3650, 9780, &days, &mut base);
 }
 
 fn main() {
@@ -102,6 +111,7 @@ fn main() {
     refusals::of_lists();
     refusals::of_steps();
     refusals::of_values();
+    refusals::of_spells();
     published::recession_constants();
     published::base_flow_indices();
     published::minima_line();

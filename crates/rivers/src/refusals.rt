@@ -81,3 +81,16 @@ pub fn of_values() {
     calls::totals(&days, &base);
     calls::totals(&days, &[0, 0, 90_001, 0]);
 }
+
+pub fn of_spells() {
+    let days = [100u32, 0, 0, series::MISSING];
+    let mut base = [7u64; 4];
+    calls::bfimax(2, 2, 0, &days, &mut base);
+    calls::bfimax(2, 1, 9500, &days, &mut base);
+    calls::bfimax(2, 3651, 9500, &days, &mut base);
+    calls::bfimax(4, 2, 9500, &days, &mut base);
+    calls::bfimax(0, 2, 9500, &days, &mut base);
+    calls::bfimax(3, 2, 9500, &days, &mut base);
+    calls::bfimax(2, 2, 9500, &days, &mut base);
+    calls::bfimax(2, 3, 9500, &days, &mut base);
+}

@@ -9,8 +9,8 @@ use mathlib.Core.Option.{Option, none, some, Option·none-ne-some, Option·some-
 use native.Mathlib.Decide.{ℕ-discrete}
 use native.Mathlib.Omega.{arith}
 use lib.ListN.{length, getD}
-use borrow.Author.Tests.{eq-eqb, ne-eqb, leb-true, le-leb, eqb-true, not-false}
-use Rattle.series.specs.Units.{flowLimit, missingMark, noValueMark, isInvalidDay, dayOf, baseOf, baseMark, within}
+use borrow.Author.Tests.{eq-eqb, ne-eqb, leb-true, le-leb, eqb-true, eqb-false, not-false}
+use Rattle.series.specs.Units.{flowLimit, missingMark, noValueMark, isMissing, isInvalidDay, dayOf, baseOf, baseMark, within}
 use Rattle.series.specs.Lists.{anyInvalidDay}
 
 pub one-of : (a b : Bool) → (a || b) ≡ true → (a ≡ true) ⊎ (b ≡ true)
@@ -98,6 +98,19 @@ valid-flow d h = simp (le-leb d flowLimit h)
 pub valid-missing : isInvalidDay missingMark ≡ false
 unfolding isInvalidDay
 valid-missing = refl
+
+-- the mark of a missing day, as it is tested
+pub mark-missing : (d : ℕ) → d ≡ missingMark → isMissing d ≡ true
+unfolding isMissing
+mark-missing d e = eq-eqb d missingMark e
+
+pub not-mark-missing : (d : ℕ) → (d ≡ missingMark → ⊥) → isMissing d ≡ false
+unfolding isMissing
+not-mark-missing d n = ne-eqb d missingMark n
+
+pub missing-is-mark : (d : ℕ) → isMissing d ≡ false → d ≡ missingMark → ⊥
+unfolding isMissing
+missing-is-mark d e = eqb-false d missingMark e
 
 -- days whose flows are within their limit
 abbrev pub Valid : List (Option ℕ) → Type 0

@@ -39,7 +39,7 @@ pub enum Refusal {
     InvalidDay,
     // 11: a method that is not 1 to 7
     UnknownMethod,
-    // 12: p, q or s outside the range of its method
+    // 12: p, q or s outside its range
     ParameterOutOfRange,
     // 13: passes that are not 1, 2 or 3, or are 2 or 3 in another method than 1
     InvalidPasses,
@@ -61,6 +61,10 @@ pub enum Refusal {
     NoFlow,
     // 22: a limb list without two numbers for each counted limb
     LimbListTooShort,
+    // 23: duration D out of range
+    DurationOutOfRange,
+    // 24: a last day outside the list, or a missing day or none on one of the D days
+    InvalidSpell,
 }
 
 impl Refusal {
@@ -91,6 +95,8 @@ impl Refusal {
             Refusal::InvalidBase => 20,
             Refusal::NoFlow => 21,
             Refusal::LimbListTooShort => 22,
+            Refusal::DurationOutOfRange => 23,
+            Refusal::InvalidSpell => 24,
         }
     }
 }

@@ -1,0 +1,5 @@
+mod Sentences
+mod Examples
+mod Stretch
+mod Spells
+mod Calls
