@@ -14,6 +14,7 @@
  *   day list    uint32_t a day: its flow, or BASEFLOW_MISSING
  *   base list   uint64_t a day: its base flow, or BASEFLOW_NO_VALUE
  *   place       a day's position in a list, counted from 0
+ *   rounding    base flow, index, ratio and BFImax go to the nearest whole number, at a half to the even one
  *
  * Answers
  *   Each call returns 0, or the number of the first cause to refuse that holds, in the order given with the call.

@@ -4,6 +4,7 @@
 #include <stdio.h>
 
 #include "differential.h"
+#include "reference.h"
 
 #define BRANCHES(X)                                                                                                    \
     X(READ_1_EMPTY, "read", "refused 1, no bytes")                                                                     \
@@ -74,6 +75,26 @@
     X(FILTER_7_AT_ZERO, "filter", "method 7, a day kept at zero")                                                      \
     X(FILTER_7_AFTER_ZERO, "filter", "method 7, base on the day after one kept at zero")                               \
     X(FILTER_7_CAPPED, "filter", "method 7, a day held to the flow")                                                   \
+    X(FILTER_1_HALF_BELOW, "filter", "method 1, a quotient at a half, even below")                                     \
+    X(FILTER_1_HALF_ABOVE, "filter", "method 1, a quotient at a half, even above")                                     \
+    X(FILTER_2_HALF_BELOW, "filter", "method 2, a quotient at a half, even below")                                     \
+    X(FILTER_2_HALF_ABOVE, "filter", "method 2, a quotient at a half, even above")                                     \
+    X(FILTER_3_HALF_BELOW, "filter", "method 3, a quotient at a half, even below")                                     \
+    X(FILTER_3_HALF_ABOVE, "filter", "method 3, a quotient at a half, even above")                                     \
+    X(FILTER_4_HALF_BELOW, "filter", "method 4, a quotient at a half, even below")                                     \
+    X(FILTER_4_HALF_ABOVE, "filter", "method 4, a quotient at a half, even above")                                     \
+    X(FILTER_5_HALF_BELOW, "filter", "method 5, a quotient at a half, even below")                                     \
+    X(FILTER_5_HALF_ABOVE, "filter", "method 5, a quotient at a half, even above")                                     \
+    X(FILTER_6_HALF_BELOW, "filter", "method 6, a quotient at a half, even below")                                     \
+    X(FILTER_6_HALF_ABOVE, "filter", "method 6, a quotient at a half, even above")                                     \
+    X(FILTER_7_HALF_BELOW, "filter", "method 7, a quotient at a half, even below")                                     \
+    X(FILTER_7_HALF_ABOVE, "filter", "method 7, a quotient at a half, even above")                                     \
+    X(FILTER_PASS_2_HALF_BELOW, "filter", "pass 2, a quotient at a half, even below")                                  \
+    X(FILTER_PASS_2_HALF_ABOVE, "filter", "pass 2, a quotient at a half, even above")                                  \
+    X(FILTER_PASS_3_HALF_BELOW, "filter", "pass 3, a quotient at a half, even below")                                  \
+    X(FILTER_PASS_3_HALF_ABOVE, "filter", "pass 3, a quotient at a half, even above")                                  \
+    X(FILTER_START_HALF_BELOW, "filter", "method 5, a start at a half, even below")                                    \
+    X(FILTER_START_HALF_ABOVE, "filter", "method 5, a start at a half, even above")                                    \
     X(FILTER_NO_DAY, "filter", "accepted, no day")                                                                     \
     X(FILTER_ALL_MISSING, "filter", "accepted, all missing")                                                           \
     X(FILTER_GAPS, "filter", "accepted, several stretches")                                                            \
@@ -105,6 +126,10 @@
     X(STEP_7_ABOVE, "step", "method 7, s above zero")                                                                  \
     X(STEP_7_AT_ZERO, "step", "method 7, kept at zero")                                                                \
     X(STEP_7_CAPPED, "step", "method 7, held to the flow")                                                             \
+    X(STEP_START_HALF_BELOW, "step", "method 5, a start at a half, even below")                                        \
+    X(STEP_START_HALF_ABOVE, "step", "method 5, a start at a half, even above")                                        \
+    X(STEP_HALF_BELOW, "step", "a quotient at a half, even below")                                                     \
+    X(STEP_HALF_ABOVE, "step", "a quotient at a half, even above")                                                     \
     X(STEP_MISSING_FRESH, "step", "missing day, fresh")                                                                \
     X(STEP_MISSING_AFTER, "step", "missing day, yesterday")                                                            \
     X(STEP_FRESH_UNREAD, "step", "fresh beside an impossible flow or base")                                            \
@@ -139,6 +164,8 @@
     X(LINE_17_DRY, "line", "refused 17, though a day is dry")                                                          \
     X(LINE_DROPPED, "line", "accepted, last block incomplete")                                                         \
     X(LINE_CAPPED, "line", "accepted, line held to the flow")                                                          \
+    X(LINE_HALF_BELOW, "line", "accepted, a line at a half, even below")                                               \
+    X(LINE_HALF_ABOVE, "line", "accepted, a line at a half, even above")                                               \
     X(LINE_N_1, "line", "accepted, N 1")                                                                               \
     X(LINE_N_30, "line", "accepted, N 30")                                                                             \
     X(LINE_MOST_DAYS, "line", "accepted, 36,525 days")                                                                 \
@@ -155,7 +182,8 @@
     X(TOTALS_SOME, "totals", "accepted, value on some days")                                                           \
     X(TOTALS_INDEX_0, "totals", "accepted, index 0")                                                                   \
     X(TOTALS_INDEX_MOST, "totals", "accepted, index 10,000")                                                           \
-    X(TOTALS_HALF, "totals", "accepted, index at a half")                                                              \
+    X(TOTALS_HALF_BELOW, "totals", "accepted, index at a half, even below")                                            \
+    X(TOTALS_HALF_ABOVE, "totals", "accepted, index at a half, even above")                                            \
     X(TOTALS_MOST_DAYS, "totals", "accepted, 36,525 days")                                                             \
     X(RECESSION_18_LOW, "recession", "refused 18, L low")                                                              \
     X(RECESSION_18_HIGH, "recession", "refused 18, L high")                                                            \
@@ -185,6 +213,8 @@
     X(RECESSION_GAP, "recession", "accepted, a fall through a gap")                                                    \
     X(RECESSION_RATIO_0, "recession", "accepted, ratio 0")                                                             \
     X(RECESSION_RATIO_MOST, "recession", "accepted, ratio 10,000")                                                     \
+    X(RECESSION_HALF_BELOW, "recession", "accepted, the median at a half, even below")                                 \
+    X(RECESSION_HALF_ABOVE, "recession", "accepted, the median at a half, even above")                                 \
     X(RECESSION_L_2, "recession", "accepted, L 2")                                                                     \
     X(RECESSION_L_60, "recession", "accepted, L 60")                                                                   \
     X(RECESSION_FULL, "recession", "accepted, list filled")                                                            \
@@ -231,12 +261,14 @@
     X(BFIMAX_BARELY, "bfimax", "accepted, held to the flow by less than a litre")                                      \
     X(BFIMAX_EQUAL, "bfimax", "accepted, quotient equal to the flow")                                                  \
     X(BFIMAX_LARGE, "bfimax", "accepted, a quotient above 10^13")                                                      \
-    X(BFIMAX_HALF, "bfimax", "accepted, a quotient at a half")                                                         \
+    X(BFIMAX_HALF_BELOW, "bfimax", "accepted, a quotient at a half, even below")                                       \
+    X(BFIMAX_HALF_ABOVE, "bfimax", "accepted, a quotient at a half, even above")                                       \
     X(BFIMAX_DRY_LAST, "bfimax", "accepted, last day dry")                                                             \
     X(BFIMAX_DRY_BETWEEN, "bfimax", "accepted, a dry day before one with a value")                                     \
     X(BFIMAX_ANSWER_0, "bfimax", "accepted, BFImax 0")                                                                 \
     X(BFIMAX_ANSWER_MOST, "bfimax", "accepted, BFImax 10,000")                                                         \
-    X(BFIMAX_ANSWER_HALF, "bfimax", "accepted, BFImax at a half")                                                      \
+    X(BFIMAX_ANSWER_HALF_BELOW, "bfimax", "accepted, BFImax at a half, even below")                                    \
+    X(BFIMAX_ANSWER_HALF_ABOVE, "bfimax", "accepted, BFImax at a half, even above")                                    \
     X(BFIMAX_MOST_DAYS, "bfimax", "accepted, 36,525 days")                                                             \
     X(BFIMAX_LATE, "bfimax", "accepted, D 3,650 at the end of 36,525 days")
 
@@ -261,6 +293,21 @@ static void hit_if(int holds, enum branch branch)
 static enum branch behind(enum branch branch, uint32_t places)
 {
     return (enum branch)((uint32_t)branch + places);
+}
+
+// Whether a / b lies at a half, and on which side of it the even number is.
+enum { NO_HALF = 0, EVEN_BELOW = 1, EVEN_ABOVE = 2 };
+
+static int half_at(uint64_t a, uint64_t b)
+{
+    return a % b != b - a % b ? NO_HALF : a / b % 2 == 0 ? EVEN_BELOW : EVEN_ABOVE;
+}
+
+// Of the halves that were met, each kind once; the branch of the other kind stands behind that of the even one below.
+static void hit_halves(int met, enum branch below)
+{
+    hit_if(met & EVEN_BELOW, below);
+    hit_if(met & EVEN_ABOVE, behind(below, 1));
 }
 
 void print_branches(void)
@@ -385,13 +432,80 @@ static void count_parameters(const struct test_case *c)
     }
 }
 
+// What 3.2 divides, and by what (*d).
+static int64_t sum_of(const struct test_case *c, uint64_t base, uint64_t today, uint64_t before, int64_t *d)
+{
+    int64_t p = c->p, q = c->q, f = (int64_t)base, u = (int64_t)today, u_before = (int64_t)before;
+    switch (c->method) {
+    case 1:
+        *d = 20000;
+        return 2 * p * f + (10000 - p) * (u + u_before);
+    case 2:
+        *d = 30000 - p;
+        return (3 * p - 10000) * f + (10000 - p) * (u + u_before);
+    case 3:
+        *d = 20000 - p;
+        return p * f + (10000 - p) * u;
+    case 4:
+        *d = 10000 + q;
+        return p * f + q * u;
+    case 5:
+        *d = 100000000 - p * q;
+        return p * (10000 - q) * f + (10000 - p) * q * u;
+    case 6:
+        *d = 10000;
+        return p * f + (10000 - p) * u;
+    default:
+        *d = 10000 * (10000 + q);
+        return 10000 * (p * f + q * u) + q * c->s * u_before;
+    }
+}
+
 // Where method 7's quotient lies on a day that has flow, by yesterday's base and flow: below zero (-1), above the day's
 // own flow (1), or between them (0).
 static int side_of(const struct test_case *c, uint64_t base, uint32_t flow, uint32_t day)
 {
-    int64_t p = c->p, q = c->q, f = (int64_t)base, u = 1000 * (int64_t)day, u_before = 1000 * (int64_t)flow;
-    int64_t sum = 10000 * (p * f + q * u) + q * c->s * u_before;
-    return day == 0 ? 0 : sum < 0 ? -1 : sum > 10000 * (10000 + q) * u;
+    int64_t d, sum = sum_of(c, base, 1000 * (uint64_t)day, 1000 * (uint64_t)flow, &d);
+    return day == 0 ? 0 : sum < 0 ? -1 : sum > d * 1000 * (int64_t)day;
+}
+
+// Whether the quotient lies at a half, between zero and the day's input.
+static int half_of(const struct test_case *c, uint64_t base, uint64_t today, uint64_t before)
+{
+    int64_t d, sum = sum_of(c, base, today, before, &d);
+    return sum < 0 || sum > d * (int64_t)today ? NO_HALF : half_at((uint64_t)sum, (uint64_t)d);
+}
+
+// The start of method 5: 3.4.
+static int half_of_start(const struct test_case *c, uint32_t day)
+{
+    return c->method == 5 ? half_at(9 * (uint64_t)c->q * day, 100) : NO_HALF;
+}
+
+// The halves of the last pass, whose output is `base`; its input is the flow, or what the passes before it give.
+static void count_filter_halves(const struct test_case *c, const uint64_t *base)
+{
+    static uint64_t input[ROOM_DAYS];
+    int met = 0, met_at_start = 0;
+    for (size_t t = 0; t < c->days_len; t++)
+        input[t] = 1000 * (uint64_t)c->days[t];
+    if (c->passes > 1)
+        reference_filter(c->method, c->p, c->q, c->s, c->passes - 1, c->days, c->days_len, input, c->days_len);
+    for (size_t t = 0; t < c->days_len; t++) {
+        if (c->days[t] == MISSING)
+            continue;
+        if (t == 0 || c->days[t - 1] == MISSING)
+            met_at_start |= half_of_start(c, c->days[t]);
+        else if (c->passes == 2)
+            met |= half_of(c, base[t], input[t - 1], input[t]);
+        else
+            met |= half_of(c, base[t - 1], input[t], input[t - 1]);
+    }
+    if (c->passes == 1)
+        hit_halves(met, behind(FILTER_1_HALF_BELOW, 2 * (c->method - 1)));
+    else
+        hit_halves(met, c->passes == 2 ? FILTER_PASS_2_HALF_BELOW : FILTER_PASS_3_HALF_BELOW);
+    hit_halves(met_at_start, FILTER_START_HALF_BELOW);
 }
 
 static void count_method_7(const struct test_case *c, const uint64_t *base)
@@ -438,6 +552,7 @@ static void count_filter(const struct test_case *c, uint32_t answer, const uint6
         hit(c->method == 1 ? behind(FILTER_1_1, c->passes - 1) : behind(FILTER_2, c->method - 2));
         if (c->method == 7)
             count_method_7(c, base);
+        count_filter_halves(c, base);
         hit_if(c->days_len == 0, FILTER_NO_DAY);
         hit_if(c->days_len > 0 && count_stretches(c) == 0, FILTER_ALL_MISSING);
         hit_if(count_stretches(c) > 1, FILTER_GAPS);
@@ -471,6 +586,10 @@ static void count_step(const struct test_case *c, uint32_t answer)
             hit(has_yesterday == 0 ? STEP_MISSING_FRESH : STEP_MISSING_AFTER);
         else
             hit(behind(has_yesterday == 0 ? STEP_1_FRESH : STEP_1_AFTER, c->method - 1));
+        if (c->day != MISSING && has_yesterday == 0)
+            hit_halves(half_of_start(c, c->day), STEP_START_HALF_BELOW);
+        else if (c->day != MISSING)
+            hit_halves(half_of(c, base, 1000 * (uint64_t)c->day, 1000 * (uint64_t)flow), STEP_HALF_BELOW);
         if (c->method == 7 && c->day != MISSING && has_yesterday != 0) {
             int side = side_of(c, base, flow, c->day);
             hit_if(c->s > 0, STEP_7_ABOVE);
@@ -486,6 +605,7 @@ static void count_step(const struct test_case *c, uint32_t answer)
 
 struct turn_view {
     size_t most, stretches, lines, ties, equals, dropped, dry, spells, outside;
+    int halves;
 };
 
 static size_t lowest_of(const struct test_case *c, size_t from, struct turn_view *view)
@@ -498,6 +618,18 @@ static size_t lowest_of(const struct test_case *c, size_t from, struct turn_view
     return low;
 }
 
+// Whether the line from day i to day j lies at a half somewhere, and below the flow there.
+static int halves_between(const struct test_case *c, size_t i, size_t j)
+{
+    int met = 0;
+    for (size_t t = i + 1; t < j; t++) {
+        uint64_t sum = 1000 * ((uint64_t)c->days[i] * (j - t) + (uint64_t)c->days[j] * (t - i));
+        if (sum < 1000 * (uint64_t)c->days[t] * (j - i))
+            met |= half_at(sum, j - i);
+    }
+    return met;
+}
+
 // Turning points: the most in a stretch, in how many stretches there are some, and in how many a line.
 static struct turn_view view_turns(const struct test_case *c)
 {
@@ -506,12 +638,17 @@ static struct turn_view view_turns(const struct test_case *c)
     for (size_t start = 0, end; start < c->days_len; start = end + 1) {
         for (end = start; end < c->days_len && c->days[end] != MISSING;)
             end++;
-        size_t turns = 0;
+        size_t turns = 0, turn = 0;
         for (size_t at = start; at + 3 * N <= end; at += N) {
+            size_t place = lowest_of(c, at + N, &view);
             uint64_t left = 10000 * (uint64_t)c->days[lowest_of(c, at, &view)];
-            uint64_t middle = c->factor * (uint64_t)c->days[lowest_of(c, at + N, &view)];
+            uint64_t middle = c->factor * (uint64_t)c->days[place];
             uint64_t right = 10000 * (uint64_t)c->days[lowest_of(c, at + 2 * N, &view)];
-            turns += middle == 0 || (middle < left && middle < right);
+            if (middle == 0 || (middle < left && middle < right)) {
+                view.halves |= turns > 0 ? halves_between(c, turn, place) : NO_HALF;
+                turn = place;
+                turns++;
+            }
             view.dry += middle == 0 && left > 0 && right > 0;
             view.spells += middle == 0 && (left == 0 || right == 0);
             view.outside += middle > 0 && (left == 0 || right == 0);
@@ -568,6 +705,7 @@ static void count_line(const struct test_case *c, uint32_t answer, const uint64_
         hit_if(view.outside > 0, LINE_DRY_OUTSIDE);
         hit_if(view.dropped > 0, LINE_DROPPED);
         hit_if(any_at_flow(c, base), LINE_CAPPED);
+        hit_halves(view.halves, LINE_HALF_BELOW);
         hit_if(c->block_days == 1, LINE_N_1);
         hit_if(c->block_days == 30, LINE_N_30);
         hit_if(c->days_len == MOST_DAYS, LINE_MOST_DAYS);
@@ -604,7 +742,7 @@ static void count_totals(const struct test_case *c, uint32_t answer, const struc
         hit(outs->small[0] == c->days_len ? TOTALS_ALL : TOTALS_SOME);
         hit_if(outs->small[1] == 0, TOTALS_INDEX_0);
         hit_if(outs->small[1] == 10000, TOTALS_INDEX_MOST);
-        hit_if(20 * outs->large[1] % (2 * outs->large[0]) == outs->large[0], TOTALS_HALF);
+        hit_halves(half_at(10 * outs->large[1], outs->large[0]), TOTALS_HALF_BELOW);
         hit_if(c->days_len == MOST_DAYS, TOTALS_MOST_DAYS);
     }
 }
@@ -653,6 +791,22 @@ struct limb_view view_limbs(const struct test_case *c)
     return view;
 }
 
+// Whether a ratio at a half is the median.
+static int halves_of_ratio(const struct test_case *c, uint32_t ratio)
+{
+    int met = 0;
+    for (size_t start = 0, end; start < c->days_len; start = end) {
+        for (end = start + 1; end < c->days_len && c->days[end] < c->days[end - 1] && c->days[start] != MISSING;)
+            end++;
+        for (size_t t = start + 1; t < end && end - start >= c->limb_days; t++) {
+            int half = half_at(10000 * (uint64_t)c->days[t], c->days[t - 1]);
+            uint64_t below = 10000 * (uint64_t)c->days[t] / c->days[t - 1];
+            met |= below + (half == EVEN_ABOVE) == ratio ? half : NO_HALF;
+        }
+    }
+    return met;
+}
+
 static void count_recession(const struct test_case *c, uint32_t answer, const struct outs *outs)
 {
     struct limb_view view = {0};
@@ -695,6 +849,7 @@ static void count_recession(const struct test_case *c, uint32_t answer, const st
         hit_if(view.at_gap > 0, RECESSION_GAP);
         hit_if(outs->small[1] == 0, RECESSION_RATIO_0);
         hit_if(outs->small[1] == 10000, RECESSION_RATIO_MOST);
+        hit_halves(halves_of_ratio(c, outs->small[1]), RECESSION_HALF_BELOW);
         hit_if(c->limb_days == 2, RECESSION_L_2);
         hit_if(c->limb_days == 60, RECESSION_L_60);
         hit(c->limbs_len == 2 * view.counted ? RECESSION_FULL : RECESSION_REST);
@@ -739,7 +894,7 @@ static void count_no_spell(const struct test_case *c)
 static void count_values(const struct test_case *c, size_t first, const uint64_t *base)
 {
     size_t held = 0, part = 0; // going back: 1 from a day that is not held, 2 from one that then is, 3 from one not
-    int barely = 0, equal = 0, large = 0, half = 0, dry = 0;
+    int barely = 0, equal = 0, large = 0, halves = 0, dry = 0;
     for (size_t t = c->last_day; t-- > first;) {
         uint64_t whole = 1000 * (uint64_t)c->days[t], dividend = 10000 * base[t + 1];
         int over = dividend > c->p * whole, under = dividend < c->p * whole;
@@ -748,7 +903,7 @@ static void count_values(const struct test_case *c, size_t first, const uint64_t
         barely |= over && dividend < c->p * (whole + 1000);
         equal |= !over && !under && whole > 0;
         large |= dividend / c->p > 10000000000000;
-        half |= under && 2 * dividend % (2 * c->p) == c->p;
+        halves |= under ? half_at(dividend, c->p) : NO_HALF;
         dry |= whole == 0 && base[t + 1] > 0;
     }
     hit_if(held == 0, BFIMAX_NEVER);
@@ -757,7 +912,7 @@ static void count_values(const struct test_case *c, size_t first, const uint64_t
     hit_if(barely, BFIMAX_BARELY);
     hit_if(equal, BFIMAX_EQUAL);
     hit_if(large, BFIMAX_LARGE);
-    hit_if(half, BFIMAX_HALF);
+    hit_halves(halves, BFIMAX_HALF_BELOW);
     hit_if(dry, BFIMAX_DRY_BETWEEN);
     hit_if(c->days[c->last_day] == 0, BFIMAX_DRY_LAST);
 }
@@ -816,7 +971,7 @@ static void count_bfimax(const struct test_case *c, uint32_t answer, const struc
         hit_if(end < c->days_len && c->days[end] == MISSING, BFIMAX_GAP_BEHIND);
         hit_if(outs->small[0] == 0, BFIMAX_ANSWER_0);
         hit_if(outs->small[0] == 10000, BFIMAX_ANSWER_MOST);
-        hit_if(20 * sum % (2 * flow) == flow, BFIMAX_ANSWER_HALF);
+        hit_halves(half_at(10 * sum, flow), BFIMAX_ANSWER_HALF_BELOW);
         hit_if(c->days_len == MOST_DAYS, BFIMAX_MOST_DAYS);
         hit_if(end == MOST_DAYS && c->duration == MOST_DURATION, BFIMAX_LATE);
     }

@@ -107,6 +107,7 @@ def cases():
     full = storms(rng, 36525, 0.03)
     for setting in ((1, 9250, 0, 0, 3), (5, 9780, 8000, 0, 1), (7, 9700, 300, -2000, 1), (LINE, 9000, 0, 0, 5)):
         yield "36,525 days", setting, 99_999, full
+    yield "a rise that stops at a half", (6, 9950, 0, 0, 1), 0, [1] * 2000
     for _ in range(800):
         river = [rng.randrange(rng.choice((4, 100, 10_000_001))) for _ in range(rng.randrange(1, 60))]
         yield "any", any_setting(rng), 0, river
@@ -251,7 +252,7 @@ def worked_rivers(engine):
         ("method 1", engine.filter(1, 9250, 0, 0, 1, [100, 200]), [50000, 57500]),
         ("method 1, falling", engine.filter(1, 9250, 0, 0, 1, [1000, 10]), [500000, 10000]),
         ("method 5", engine.filter(5, 9770, 8000, 0, 1, [100, 100]), [72000, 72842]),
-        ("method 6", engine.filter(6, 5000, 0, 0, 1, [1] * 6), [500, 750, 875, 938, 969, 985]),
+        ("method 6", engine.filter(6, 5000, 0, 0, 1, [1] * 6), [500, 750, 875, 938, 969, 984]),
         ("method 2, p 3333", refused(engine.filter, 2, 3333, 0, 0, 1, [1])[0], 12),
         ("method 2, p 3334", refused(engine.filter, 2, 3334, 0, 0, 1, [1])[0], None),
         ("method 7, below zero", engine.filter(7, 100, 1000, -5000, 1, [1000, 2]), [500000, 0]),
@@ -284,7 +285,16 @@ def worked_rivers(engine):
          (4993, [None, 34991, 33241, 31579, 30000, None])),
         ("BFImax, a dry last day", engine.bfimax(2, 3, 9500, [5, 0, 0, 7]), (0, [0, 0, 0, None])),
         ("BFImax, no flow", refused(engine.bfimax, 2, 2, 9500, [5, 0, 0, 7])[0], 21),
-        ("BFImax, a half", engine.bfimax(1, 2, 6400, [2, 1]), (8543, [1563, 1000])),
+        ("method 1, halves, three passes", engine.filter(1, 5000, 0, 0, 3, [1] * 6), [500, 562, 687, 797, 875, 926]),
+        ("method 5, a start at a half", [engine.filter(5, 9770, 50, 0, 1, [flow]) for flow in (1, 3)], [[4], [14]]),
+        ("line, halves", engine.line(16, 9000, [30] * 16 + [20] + [30] * 15 + [21] + [30] * 31)[16:21],
+         [20000, 20062, 20125, 20188, 20250]),
+        ("index at a half", [engine.totals([20], [base])[4] for base in (1, 3)], [0, 2]),
+        ("a ratio at a half", [engine.recession(2, [32, flow])[1] for flow in (1, 3)], [312, 938]),
+        ("BFImax, a half", engine.bfimax(1, 2, 6400, [2, 1]), (8540, [1562, 1000])),
+        ("BFImax, a half above an odd number", engine.bfimax(1, 2, 6400, [5, 3]), (9610, [4688, 3000])),
+        ("BFImax, the answer at a half", [engine.bfimax(1, 2, 5000, flows)[0] for flows in ([31, 1], [29, 3])],
+         [938, 2812]),
         ("zero days", engine.read(bytes.fromhex("01 00000000 09 00000000")), (0, [])),
         ("no bytes", refused(engine.read, b"")[0], 1),
     ]

@@ -1,6 +1,6 @@
 // The generator of the differential runs. It aims at the edges of document 01: limits and their neighbours, marks,
-// ties, falls through gaps, dry spells, limbs of chosen lengths, recessions as BFImax sees them, full lists, lists of
-// different lengths, and records damaged by cutting, flipping and inserting.
+// ties, quotients at a half, falls through gaps, dry spells, limbs of chosen lengths, recessions as BFImax sees them,
+// full lists, lists of different lengths, and records damaged by cutting, flipping and inserting.
 #include <string.h>
 
 #include "differential.h"
@@ -176,6 +176,20 @@ static void fill_base(struct test_case *c)
 
 // ---- settings
 
+// Settings with which many sums lie at a half: A, 1000 times B and d have so much in common that little is left of d,
+// and that is even. In method 5 the first q does it for the sums, any other for the start of an odd flow.
+static void fill_halving(struct test_case *c)
+{
+    static const uint32_t p[] = {5000, 4400, 4000, 8000, 5000, 5000, 8000};
+    c->p = p[c->method - 1];
+    if (c->method == 4 || c->method == 7)
+        c->q = 6000;
+    if (c->method == 5)
+        c->q = one_in(2) ? 8000 : 50 * (1 + 2 * below(100));
+    if (c->method == 7)
+        c->s = AMONG_SIGNED(-5000, 5000);
+}
+
 static void fill_setting(struct test_case *c)
 {
     c->method = spoil() ? AMONG(0, 8, 9, MISSING, 0x80000001, 257) : between(1, 7);
@@ -184,6 +198,8 @@ static void fill_setting(struct test_case *c)
     c->p = one_in(3) ? AMONG(least, 9999, 5000, 9250, 9998, least + 1) : between(least, 9999);
     c->q = !has_q ? 0 : one_in(3) ? AMONG(1, most_q, 5000, 8000) : between(1, most_q);
     c->s = !has_s ? 0 : one_in(3) ? AMONG_SIGNED(-9999, 9999, -1, 0, 1, -5000) : (int32_t)below(19999) - 9999;
+    if (1 <= c->method && c->method <= 7 && one_in(6))
+        fill_halving(c);
     if (spoil())
         c->p = AMONG(0, least - 1, 10000, 10001, MISSING);
     else if (spoil())
@@ -230,13 +246,56 @@ static void make_steps(struct test_case *c)
     while (reference_filter(c->method, c->p, c->q, c->s, 1, c->days, c->days_len, c->base, c->days_len) != 0);
 }
 
+// Every block of 16 days turns, on the same of its days, and at nearly the same flow: between two that differ by an odd
+// number the line lies at a half on every other day.
+static void fill_halved_line(struct test_case *c)
+{
+    uint32_t low = between(30, one_in(4) ? MOST_FLOW / 3 : 300), place = below(16);
+    c->days_len = 16 * between(4, 8) + below(16);
+    for (size_t t = 0; t < c->days_len; t++)
+        c->days[t] = t % 16 == place ? low + below(3) : 2 * low + below(8);
+    spoil_day(c);
+}
+
 static void make_line(struct test_case *c)
 {
-    c->block_days = spoil() ? AMONG(0, 31, 32, MISSING) : one_in(2) ? between(1, 3) : one_in(2) ? 5 : between(1, 30);
-    c->factor = spoil() ? AMONG(0, 10000, 10001, MISSING)
-                : one_in(2) ? AMONG(9000, 9999, 9998, 5000, 1, 2) : between(1, 9999);
-    fill_days(c);
+    int halves = one_in(8);
+    c->block_days = spoil()     ? AMONG(0, 31, 32, MISSING)
+                    : halves    ? 16
+                    : one_in(2) ? between(1, 3)
+                    : one_in(2) ? 5
+                                : between(1, 30);
+    c->factor = spoil()     ? AMONG(0, 10000, 10001, MISSING)
+                : halves    ? AMONG(9000, 5000, 1)
+                : one_in(2) ? AMONG(9000, 9999, 9998, 5000, 1, 2)
+                            : between(1, 9999);
+    if (halves)
+        fill_halved_line(c);
+    else
+        fill_days(c);
     fill_base(c);
+}
+
+// Base flow with which the index lies at a half: one day's flow makes Y a multiple of 20, and T is an odd number of
+// twentieths of Y, on the days from the first on as far as it goes.
+static void halve_index(struct test_case *c)
+{
+    size_t count = c->days_len < c->base_len ? c->days_len : c->base_len, last = count;
+    uint64_t flow = 0;
+    for (size_t t = 0; t < count; t++) {
+        flow += c->days[t] <= MOST_FLOW ? c->days[t] : 0;
+        last = c->days[t] <= MOST_FLOW ? t : last;
+    }
+    if (last == count)
+        return;
+    uint32_t over = (uint32_t)(flow % 20), more = c->days[last] < 20 ? 20 : 0;
+    c->days[last] += more - over;
+    uint64_t left = (flow + more - over) / 20 * (1 + 2 * below(10000));
+    for (size_t t = 0; t < count; t++) {
+        uint64_t whole = c->days[t] <= MOST_FLOW ? 1000 * (uint64_t)c->days[t] : 0;
+        c->base[t] = c->days[t] > MOST_FLOW ? NO_VALUE : left < whole ? left : whole;
+        left -= left < whole ? left : whole;
+    }
 }
 
 static void make_totals(struct test_case *c)
@@ -258,6 +317,8 @@ static void make_totals(struct test_case *c)
     }
     if (share == 4 && one_in(10))
         memset(c->base, 0xff, c->base_len * sizeof *c->base);
+    if (one_in(8))
+        halve_index(c);
     if (c->base_len > 0 && spoil()) {
         size_t t = below((uint32_t)c->base_len);
         uint64_t whole = t < c->days_len && c->days[t] != MISSING ? 1000 * (uint64_t)c->days[t] : 0;
@@ -265,12 +326,28 @@ static void make_totals(struct test_case *c)
     }
 }
 
+// Limbs of two days, the second with an odd number of 32nds of the first: every ratio lies at a half.
+static void fill_halved_limbs(struct test_case *c)
+{
+    uint32_t part = between(1, one_in(2) ? 4 : MOST_FLOW / 32);
+    c->days_len = 2 * between(1, one_in(2) ? 1 : 8) + below(2);
+    for (size_t t = 0; t < c->days_len; t++)
+        c->days[t] = part * (t % 2 == 0 ? 32 : 1 + 2 * below(16));
+    spoil_day(c);
+}
+
 static void make_recession(struct test_case *c)
 {
-    c->limb_days = spoil() ? AMONG(0, 1, 61, 62, MISSING) : one_in(8) ? between(2, 60) : between(2, 5);
+    int halves = one_in(10);
+    c->limb_days = spoil()     ? AMONG(0, 1, 61, 62, MISSING)
+                   : halves    ? 2
+                   : one_in(8) ? between(2, 60)
+                               : between(2, 5);
     if (one_in(40))
         c->limb_days = 60;
-    if (one_in(3))
+    if (halves)
+        fill_halved_limbs(c);
+    else if (one_in(3))
         fill_limbs(c);
     else
         fill_days(c);
@@ -327,6 +404,21 @@ static void choose_spell(struct test_case *c)
         c->duration = between(2, 3);
 }
 
+// A spell whose BFImax lies at a half: p is 5000, the last day has an odd number of 32nds of the flow, at most 9, and
+// the day before it has the rest, of which twice the last day's is base flow. Days before these are dry.
+static void halve_bfimax(struct test_case *c)
+{
+    if (c->days_len < 2)
+        return;
+    uint32_t part = between(1, one_in(2) ? 4 : MOST_FLOW / 32), odd = 1 + 2 * below(5);
+    c->p = 5000;
+    c->last_day = between(1, (uint32_t)c->days_len - 1);
+    c->days[c->last_day] = odd * part;
+    c->days[c->last_day - 1] = (32 - odd) * part;
+    for (c->duration = 2; c->duration <= c->last_day && one_in(2); c->duration++)
+        c->days[c->last_day - c->duration] = 0;
+}
+
 static void make_bfimax(struct test_case *c)
 {
     c->p = one_in(2) ? AMONG(1, 2, 9999, 9998, 5000, 6400, 256, 9700) : between(one_in(2) ? 9000 : 1, 9999);
@@ -336,6 +428,8 @@ static void make_bfimax(struct test_case *c)
         fill_days(c);
     fill_base(c);
     choose_spell(c);
+    if (one_in(12))
+        halve_bfimax(c);
     if (spoil())
         c->p = AMONG(0, 10000, 10001, MISSING, 0x80000001);
     if (spoil())

@@ -5,6 +5,7 @@ matches any of the file's.
 """
 import re
 
+TIE = "(rest + (below & 1) > b - rest)"
 DAYS_TEST = "if (!are_days(days, days_len)) return 10;"
 LENGTHS_TEST = "if (base_len != days_len) return 14;"
 COUNT_TEST = "if (four_bytes(body) != count) return 7;"
@@ -27,7 +28,21 @@ NO_FLOW_TEST = "if (Y == 0) return 21; for"
 BACKWARDS = "value = smaller(1000 * (uint64_t)days[t], near(10000 * value, p));"
 
 FAULTS = (
-    ("halves go down", "(a + b / 2) / b", "(a + (b - 1) / 2) / b"),
+    ("halves go up", TIE, "(2 * rest >= b)"),
+    ("halves go down", TIE, "(2 * rest > b)"),
+    ("halves go to the odd number", TIE, "(rest + (~below & 1) > b - rest)"),
+    ("a half goes by whether the remainder is odd", TIE, "(rest + (rest & 1) > b - rest)"),
+    ("a half goes up at the start of method 5", "near(9 * q * flow, 100)", "(9 * q * flow + 50) / 100"),
+    ("a half goes up where s is below zero", "near((uint64_t)sum, w->d)", "((uint64_t)sum + w->d / 2) / w->d"),
+    ("a half goes up in pass 2 or 3", "f = next(w, f, u, u_before);",
+     "f = smaller(u, (w->a * f + w->b * u + (uint64_t)w->c * u_before + w->d / 2) / w->d);"),
+    ("a half goes up on the line", "near(1000 * ((uint64_t)days[i] * (j - t) + (uint64_t)days[j] * (t - i)), j - i)",
+     "(1000 * ((uint64_t)days[i] * (j - t) + (uint64_t)days[j] * (t - i)) + (j - i) / 2) / (j - i)"),
+    ("a half goes up in the index", "near(10 * T, Y)", "((10 * T + Y / 2) / Y)"),
+    ("a half goes up in a ratio", "near(10000 * (uint64_t)days[t], days[t - 1])",
+     "(10000 * (uint64_t)days[t] + days[t - 1] / 2) / days[t - 1]"),
+    ("a half goes up in a backward value", "near(10000 * value, p)", "(10000 * value + p / 2) / p"),
+    ("a half goes up in BFImax", "near(10 * sum, Y)", "((10 * sum + Y / 2) / Y)"),
     ("A / d is rounded before multiplying", f"near({SUM}, w->d)",
      "w->a * 10000 / w->d * f / 10000 + near(w->b * u + (uint64_t)w->c * u_before, w->d)"),
     ("only the written base is held to the flow", NEXT_DAY,

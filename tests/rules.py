@@ -16,7 +16,8 @@ class Refusal(int):
 
 # "Units": 1.4
 def near(a, b):
-    return (2 * a + b) // (2 * b)
+    below, rest = divmod(a, b)
+    return below if 2 * rest < b or 2 * rest == b and below % 2 == 0 else below + 1
 
 
 # "The record": 2.1 to 2.7

@@ -56,15 +56,15 @@ breaks-day e done = true≢false (sym e)
 breaks-day e (then no-value d) = breaks-day e d
 breaks-day e (then (values h c) d) = ⊎-elim (λ p. breaks p c) (λ p. breaks-day p d) (one-of _ _ e)
 
--- flow 1 on ten days, by method 6 with p 5000: d 10000, A 5000
+-- flow 1 on ten days, by method 6 with p 5001: d 10000, A 5001
 abbrev steady : Setting
-steady = record { method = 6; p = 5000; q = 0; s = pos 0 }
+steady = record { method = 6; p = 5001; q = 0; s = pos 0 }
 
 abbrev ones : List (Option ℕ)
 ones = some 1 ∷ some 1 ∷ some 1 ∷ some 1 ∷ some 1 ∷ some 1 ∷ some 1 ∷ some 1 ∷ some 1 ∷ some 1 ∷ []
 
--- the 2 of P is no 3: day 10 has 1000, and exactly 999.0234..
-the-2 : Each (Agree (quotient (whole (1 * 10000)) (3 * (10000 - 5000)))) ones (filtered rounded steady 1 ones) (filtered exact steady 1 ones) → ⊥
+-- the 2 of P is no 3: day 5 has 968, and exactly 968.7249..
+the-2 : Each (Agree (quotient (whole (1 * 10000)) (3 * (10000 - 5001)))) ones (filtered rounded steady 1 ones) (filtered exact steady 1 ones) → ⊥
 unfolding whole half sum opposite difference surplus multiple quotient least limitOf filtered overSegments methodOf weights start step recursive thousandths weighted near filterLimit dayOutside outside
 the-2 = breaks-day refl
 
@@ -86,12 +86,12 @@ roundedDays s days = baseDays days (filtered rounded s 1 days)
 abbrev exactDays : Setting → List (Option ℕ) → List (BaseDay Fraction)
 exactDays s days = baseDays days (filtered exact s 1 days)
 
--- the m of the totals: over the ten days of flow 1 the total is 9006, and exactly 9000.977..; P is 1
+-- the m of the totals: over the ten days of flow 1 the total is 8999, and exactly 9000.778..; P is 1.0002..
 the-m : Close (filterLimit steady 1) (baseTotal rounded (roundedDays steady ones)) (baseTotal exact (exactDays steady ones)) → ⊥
 unfolding whole half sum opposite difference surplus multiple quotient least limitOf filtered overSegments methodOf weights start step recursive thousandths weighted near filterLimit outside baseDays flowTotal baseTotal index
 the-m = breaks refl
 
--- the 10 of the index: there m and Y are 10, so that m × P / Y is 1; the index is 9006, and exactly 9000.977..
+-- the 10 of the index: there m and Y are 10, so that m × P / Y is P; the index is 8999, and exactly 9000.778..
 the-10 : Close (sum (quotient (multiple 10 (filterLimit steady 1)) 10) half) (index rounded (roundedDays steady ones)) (index exact (exactDays steady ones)) → ⊥
 unfolding whole half sum opposite difference surplus multiple quotient least limitOf filtered overSegments methodOf weights start step recursive thousandths weighted near filterLimit outside baseDays flowTotal baseTotal index
 the-10 = breaks refl

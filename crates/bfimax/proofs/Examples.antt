@@ -36,8 +36,8 @@ rivers =
     -- Y 0, and with one day more an answer of 0
     ∷ record { given = spellOf 2 2 9500; days = 5 ∷ 0 ∷ 0 ∷ 7 ∷ []; base = sevens; answer = refused 21; exit = sevens }
     ∷ record { given = spellOf 2 3 9500; days = 5 ∷ 0 ∷ 0 ∷ 7 ∷ []; base = sevens; answer = accepted 0; exit = 0 ∷ 0 ∷ 0 ∷ none ∷ [] }
-    -- a half: 10000 × 1000 / 6400 is 1562.5
-    ∷ record { given = spellOf 1 2 6400; days = 2 ∷ 1 ∷ []; base = 7 ∷ 7 ∷ []; answer = accepted 8543; exit = 1563 ∷ 1000 ∷ [] }
+    -- a half: 10000 × 1000 / 6400 is 1562.5, and 1562 is even
+    ∷ record { given = spellOf 1 2 6400; days = 2 ∷ 1 ∷ []; base = 7 ∷ 7 ∷ []; answer = accepted 8540; exit = 1562 ∷ 1000 ∷ [] }
     -- all flow: 10000
     ∷ record { given = spellOf 1 2 5000; days = 1 ∷ 1 ∷ []; base = 7 ∷ 7 ∷ []; answer = accepted 10000; exit = 1000 ∷ 1000 ∷ [] }
     -- 24: the last day is not in the list; the first lies before it; a day is missing; and 10 comes before it

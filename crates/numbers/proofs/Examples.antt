@@ -12,9 +12,14 @@ below-half : near 149 100 ≡ 1
 unfolding near
 below-half = refl
 
+-- a half between 1 and 2, and one between 2 and 3
 at-half : near 150 100 ≡ 2
 unfolding near
 at-half = refl
+
+at-half-above-even : near 250 100 ≡ 2
+unfolding near
+at-half-above-even = refl
 
 above-half : near 151 100 ≡ 2
 unfolding near

@@ -2,12 +2,16 @@
 -- The error laws hold of any nearest whole number, whatever the rule for halves (`error`).
 -- Assumes nothing.
 use Prim.Native.Nat.{ℕ, zero, suc, _+_, _*_, _-_, _/_, _%_, _≤_, _<_}
-use mathlib.Core.Path.{_≡_, sym, ap, subst}
+use mathlib.Core.Path.{_≡_, refl, sym, _∙_, ap, subst}
 use mathlib.Core.Logic.{⊎-elim}
-use native.Mathlib.Nat.{mul-pos, mul-le-mul-right, mul-le-mul-left, lt-div-mul-add, div-mul-le-self, div-eq-of-lt-le, div-zero, div-add-mod', mod-lt, eq-or-lt-of-le, lt-of-not-le}
-use native.Mathlib.Decide.{decLe}
+use mathlib.Core.Bool.{Bool, true, false, cond}
+use lib.Dec.{eqb}
+use borrow.Author.Tests.{eq-eqb, ne-eqb}
+use native.Mathlib.Nat.{eq-of-mul-eq-mul-left, mul-pos, mul-le-mul-right, mul-le-mul-left, div-eq-of-lt-le, div-zero, div-add-mod', mod-lt, eq-or-lt-of-le, lt-of-not-le}
+use native.Mathlib.Decide.{decLe, ℕ-discrete}
 use native.Mathlib.Omega.{arith}
-use Rattle.numbers.specs.Near.{near, distance, Nearest, NearestHalvesUp}
+use Rattle.numbers.specs.Near.{near, distance, Nearest, NearestHalvesEven}
+use Rattle.numbers.specs.Private.{evened}
 
 -- n lies at most one half from a / b
 pub record HalfError (a b n : ℕ) : Type 0 where
@@ -18,26 +22,74 @@ pub error : {a b n : ℕ} → 0 < b → Nearest a b n → HalfError a b n
 error {a} {b} {n = zero} p h = record { above = omega arith; below = omega (arith, h .no-nearer 1) }
 error {a} {b} {n = suc k} p h = record { above = omega (arith, h .no-nearer k); below = omega (arith, h .no-nearer (suc (suc k))) }
 
--- near as its definition has it: n is the whole part of a / b + 1 / 2
+-- at most one half off, and even where either half is met: there is one such n
+pub record Rounded (a b n : ℕ) : Type 0 where
+  pub half : HalfError a b n
+  pub above-even : 2 * (n * b) ≡ 2 * a + b → n % 2 ≡ 0
+  pub below-even : 2 * a ≡ 2 * (n * b) + b → n % 2 ≡ 0
+
+not-above : {a b n m : ℕ} → 0 < b → Rounded a b n → Rounded a b m → n < m → ⊥
+not-above {a} {b} {n} {m} p r s l =
+    let next = mul-le-mul-right b l in
+    let one : m ≡ suc n = elim (decLe m (suc n)) [ yes g ↦ omega arith | no g ↦ absurd (omega (arith, r .half .below, s .half .above, mul-le-mul-right b (lt-of-not-le g))) ] in
+    let size : m * b ≡ n * b + b = omega (arith, ap (λ k. k * b) one) in
+    let e = r .below-even (omega (arith, r .half .below, s .half .above, size)) in
+    let f = s .above-even (omega (arith, r .half .below, s .half .above, size)) in
+    omega (arith, e, f, one)
+
+pub one-rounded : {a b n m : ℕ} → 0 < b → Rounded a b n → Rounded a b m → n ≡ m
+one-rounded {n = n} {m} p r s = elim (decLe n m) [ yes g ↦ elim (decLe m n) [ yes h ↦ omega arith | no h ↦ absurd (not-above p r s (lt-of-not-le h)) ] | no g ↦ absurd (not-above p s r (lt-of-not-le g)) ]
+
+-- 2a + b = 2nb: n and the one below are equally near
+module _ {a b : ℕ} (n : ℕ) (p : 0 < b) (t : 2 * a + b ≡ 2 * (n * b)) where
+  tie-even : n % 2 ≡ 0 → Rounded a b n
+  tie-even e = record { half = record { above = omega arith; below = omega arith }; above-even = λ _. e; below-even = λ _. e }
+
+  tie-odd : (k : ℕ) → n ≡ suc k → k % 2 ≡ 0 → Rounded a b k
+  tie-odd k s e =
+      let size : n * b ≡ k * b + b = omega (arith, ap (λ m. m * b) s) in
+      record { half = record { above = omega arith; below = omega arith }; above-even = λ _. e; below-even = λ _. e }
+
+  tie-rounded : Rounded a b (n - n % 2)
+  tie-rounded =
+      elim (ℕ-discrete (n % 2) 0) [
+        | yes e ↦ subst (Rounded a b) (omega (arith, e)) (tie-even e)
+        | no g ↦ tie-odd (n - n % 2) (omega (arith, g)) (omega (arith, g))
+      ]
+
+-- not so, and at most one half off: no half is met
+off-tie : {a b n : ℕ} → 2 * (n * b) < 2 * a + b → 2 * a < 2 * (n * b) + b → Rounded a b n
+off-tie l h = record { half = record { above = omega arith; below = omega arith }; above-even = λ e. absurd (omega arith); below-even = λ e. absurd (omega arith) }
+
+-- near as its definition has it
 module _ (a b : ℕ) (p : 0 < b) where
-  low : 2 * (near a b * b) ≤ 2 * a + b
+  near-rounded : Rounded a b (near a b)
   unfolding near
-  low = omega (arith, div-mul-le-self (2 * a + b) (2 * b))
-
-  high : 2 * a + b < 2 * (near a b * b) + 2 * b
-  unfolding near
-  high = omega (arith, lt-div-mul-add {a = 2 * a + b} {b = 2 * b} (omega arith))
-
-  pub near-sentence : NearestHalvesUp a b (near a b)
-  near-sentence = record { nearest = record { no-nearer = λ m. nearer m (decLe m (near a b)) }; halves-up = λ m e. upper m e (decLe m (near a b)) }
+  near-rounded = by-rest (ℕ-discrete ((2 * a + b) % (2 * b)) 0)
     where
-      nearer : (m : ℕ) → Dec (m ≤ near a b) → distance (near a b) a b ≤ distance m a b
-      nearer m (yes h) = ⊎-elim (λ e. subst (λ (n : ℕ). distance (near a b) a b ≤ distance n a b) (sym e) (omega arith)) (λ l. omega (arith, low, high, mul-le-mul-right b l)) (eq-or-lt-of-le h)
-      nearer m (no g) = omega (arith, low, high, mul-le-mul-right b (lt-of-not-le g))
+      whole : ℕ
+      whole = (2 * a + b) / (2 * b)
 
-      upper : (m : ℕ) → distance m a b ≡ distance (near a b) a b → Dec (m ≤ near a b) → m ≤ near a b
-      upper m e (yes h) = h
-      upper m e (no g) = absurd (omega (arith, low, high, mul-le-mul-right b (lt-of-not-le g)))
+      parts : whole * (2 * b) + (2 * a + b) % (2 * b) ≡ 2 * a + b
+      parts = div-add-mod' (2 * a + b) (2 * b)
+
+      by-rest : Dec ((2 * a + b) % (2 * b) ≡ 0) → Rounded a b (cond (eqb ((2 * a + b) % (2 * b)) 0) (whole - whole % 2) whole)
+      by-rest (yes e) = rw (eq-eqb ((2 * a + b) % (2 * b)) 0 e) (tie-rounded whole p (omega (arith, parts, e)))
+      by-rest (no g) = rw (ne-eqb ((2 * a + b) % (2 * b)) 0 g) (off-tie (omega (arith, parts, g)) (omega (arith, parts, mod-lt (2 * a + b) {m = 2 * b} (omega arith))))
+
+  pub near-sentence : NearestHalvesEven a b (near a b)
+  near-sentence = record { nearest = record { no-nearer = λ m. nearer m (decLe m (near a b)) }; halves-even = λ m e n. even m e n (decLe m (near a b)) }
+    where
+      r : Rounded a b (near a b)
+      r = near-rounded
+
+      nearer : (m : ℕ) → Dec (m ≤ near a b) → distance (near a b) a b ≤ distance m a b
+      nearer m (yes h) = ⊎-elim (λ e. subst (λ (n : ℕ). distance (near a b) a b ≤ distance n a b) (sym e) (omega arith)) (λ l. omega (arith, r .half, mul-le-mul-right b l)) (eq-or-lt-of-le h)
+      nearer m (no g) = omega (arith, r .half, mul-le-mul-right b (lt-of-not-le g))
+
+      even : (m : ℕ) → distance m a b ≡ distance (near a b) a b → (m ≡ near a b → ⊥) → Dec (m ≤ near a b) → near a b % 2 ≡ 0
+      even m e n (yes h) = let l : m < near a b = omega (arith, h, n) in r .above-even (omega (arith, r .half, e, mul-le-mul-right b l))
+      even m e n (no g) = r .below-even (omega (arith, r .half, e, mul-le-mul-right b (lt-of-not-le g)))
 
   pub near-error : HalfError a b (near a b)
   near-error = error p (near-sentence .nearest)
@@ -70,36 +122,91 @@ near-monotone {a} {a′} {b} p l =
     ⊎-elim (λ e. omega (arith, ap (λ n. near n b) e)) (λ g. half-monotone p g (near-error a b p) (near-error a′ b p)) (eq-or-lt-of-le l)
 
 -- the one whole number that the definition allows
-pub near-is : (a b n : ℕ) → 0 < b → 2 * (n * b) ≤ 2 * a + b → 2 * a < 2 * (n * b) + b → near a b ≡ n
-unfolding near
-near-is a b n p l h = div-eq-of-lt-le {k = n} (2 * b) {m = 2 * a + b} (omega arith) (omega arith)
+pub near-is : (a b n : ℕ) → 0 < b → Rounded a b n → near a b ≡ n
+near-is a b n p r = one-rounded p (near-rounded a b p) r
 
--- near by one division, as the code does it
 -- the same fraction
 pub near-scaled : (k a b : ℕ) → 0 < k → 0 < b → near (k * a) (k * b) ≡ near a b
 near-scaled k a b h p =
-    let strict : 2 * a + 1 ≤ 2 * (near a b * b) + b = omega (arith, high a b p) in
-    near-is (k * a) (k * b) (near a b) (mul-pos h p) (omega (arith, mul-le-mul-left k (low a b p))) (omega (arith, mul-le-mul-left k strict))
+    let r = near-rounded a b p in
+    near-is (k * a) (k * b) (near a b) (mul-pos h p)
+    (record {
+      half = record { above = omega (arith, mul-le-mul-left k (r .half .above)); below = omega (arith, mul-le-mul-left k (r .half .below)) };
+      above-even = λ e. r .above-even (eq-of-mul-eq-mul-left k h (2 * (near a b * b)) (2 * a + b) (omega (arith, e)));
+      below-even = λ e. r .below-even (eq-of-mul-eq-mul-left k h (2 * a) (2 * (near a b * b) + b) (omega (arith, e)));
+    })
 
 pub near-by-zero : (a : ℕ) → near a 0 ≡ 0
 unfolding near
-near-by-zero a = div-zero (2 * a + 0)
+near-by-zero a = rw (div-zero (2 * a + 0)) (either (eqb ((2 * a + 0) % (2 * 0)) 0))
+  where
+    either : (t : Bool) → cond t (0 - 0 % 2) 0 ≡ 0
+    either true = refl
+    either false = refl
 
-pub near-down : (a b : ℕ) → 0 < b → a % b < b - a % b → near a b ≡ a / b
-near-down a b p h = near-is a b (a / b) p (omega (arith, div-add-mod' a b)) (omega (arith, div-add-mod' a b))
+-- near by one division, as the code does it: up where the remainder is more than half of b, or half of it behind an odd quotient
+module _ (a b : ℕ) (p : 0 < b) where
+  quotient-down : a % b + a / b % 2 ≤ b - a % b → Rounded a b (a / b)
+  quotient-down h =
+      elim (ℕ-discrete (2 * (a % b)) b) [
+        | yes e ↦ let even : a / b % 2 ≡ 0 = omega (arith, e, h) in record { half = record { above = omega (arith, div-add-mod' a b); below = omega (arith, div-add-mod' a b, e) }; above-even = λ _. even; below-even = λ _. even }
+        | no n ↦ off-tie (omega (arith, div-add-mod' a b, p)) (omega (arith, div-add-mod' a b, n, h))
+      ]
 
-pub near-up : (a b : ℕ) → 0 < b → b - a % b ≤ a % b → near a b ≡ a / b + 1
-near-up a b p h =
-    near-is a b (a / b + 1) p (omega (arith, div-add-mod' a b)) (omega (arith, div-add-mod' a b, mod-lt a p))
+  quotient-up : b - a % b < a % b + a / b % 2 → Rounded a b (a / b + 1)
+  quotient-up h =
+      elim (ℕ-discrete (2 * (a % b)) b) [
+        | yes e ↦ let even : (a / b + 1) % 2 ≡ 0 = omega (arith, e, h) in record { half = record { above = omega (arith, div-add-mod' a b, e); below = omega (arith, div-add-mod' a b, e) }; above-even = λ _. even; below-even = λ _. even }
+        | no n ↦ off-tie (omega (arith, div-add-mod' a b, n, h)) (omega (arith, div-add-mod' a b, mod-lt a p))
+      ]
 
-pub up-fits : (a b : ℕ) → 0 < b → b - a % b ≤ a % b → a / b + 1 ≤ a
+  pub near-down : a % b + a / b % 2 ≤ b - a % b → near a b ≡ a / b
+  near-down h = near-is a b (a / b) p (quotient-down h)
+
+  pub near-up : b - a % b < a % b + a / b % 2 → near a b ≡ a / b + 1
+  near-up h = near-is a b (a / b + 1) p (quotient-up h)
+
+pub up-fits : (a b : ℕ) → 0 < b → b - a % b < a % b + a / b % 2 → a / b + 1 ≤ a
 up-fits a b p h = omega (arith, div-add-mod' a b, mod-lt a p, mul-le-mul-left (a / b) p)
 
-pub near-halved : (a b : ℕ) → 0 < b → near a b ≡ (a + b / 2) / b
-near-halved a b p =
-    near-is a b ((a + b / 2) / b) p (omega (arith, div-mul-le-self (a + b / 2) b)) (omega (arith, lt-div-mul-add {a = a + b / 2} {b = b} p))
+-- near by the sum with one half, as the code does it where that fits
+pub evened-is : (h b : ℕ) → h % b + b % 2 ≡ 0 → evened h b ≡ h / b - h / b % 2
+unfolding evened
+evened-is h b e = rw (eq-eqb (h % b + b % 2) 0 e)
+
+pub evened-not : (h b : ℕ) → (h % b + b % 2 ≡ 0 → ⊥) → evened h b ≡ h / b
+unfolding evened
+evened-not h b n = rw (ne-eqb (h % b + b % 2) 0 n)
+
+half-added : (a b : ℕ) → 0 < b → Rounded a b (evened (a + b / 2) b)
+half-added a b p =
+    let h = a + b / 2 in
+    let parts = div-add-mod' h b in
+    elim (ℕ-discrete (h % b + b % 2) 0) [
+      | yes e ↦ rw (evened-is h b e) (tie-rounded (h / b) p (omega (arith, parts, e)))
+      | no n ↦ rw (evened-not h b n) (off-tie (omega (arith, parts, n)) (omega (arith, parts, mod-lt h p)))
+    ]
+
+pub near-halved : (a b : ℕ) → 0 < b → near a b ≡ evened (a + b / 2) b
+near-halved a b p = near-is a b (evened (a + b / 2) b) p (half-added a b p)
 
 -- and of a difference, with the half added before the loss is taken: what is left of the half alone makes no whole
-pub near-left : (a loss b : ℕ) → 0 < b → near (a - loss) b ≡ (a + b / 2 - loss) / b
+pub near-left : (a loss b : ℕ) → 0 < b → near (a - loss) b ≡ evened (a + b / 2 - loss) b
 near-left a loss b p =
-    near-is (a - loss) b ((a + b / 2 - loss) / b) p (omega (arith, div-mul-le-self (a + b / 2 - loss) b)) (omega (arith, p, lt-div-mul-add {a = a + b / 2 - loss} {b = b} p))
+    elim (decLe loss a) [
+      | yes h ↦ near-halved (a - loss) b p ∙ ap (λ n. evened n b) (omega (arith, h))
+      | no g ↦
+          let less = lt-of-not-le g in
+          let none : (a + b / 2 - loss) / b ≡ 0 = div-eq-zero (a + b / 2 - loss) (omega (arith, less)) in
+          ap (λ n. near n b) (omega (arith, less)) ∙ near-whole 0 p ∙ sym (rest none)
+    ]
+  where
+    div-eq-zero : (n : ℕ) → n < b → n / b ≡ 0
+    div-eq-zero n l = div-eq-of-lt-le {k = 0} b {m = n} (omega arith) (omega arith)
+
+    rest : (a + b / 2 - loss) / b ≡ 0 → evened (a + b / 2 - loss) b ≡ 0
+    rest z =
+        elim (ℕ-discrete ((a + b / 2 - loss) % b + b % 2) 0) [
+          | yes e ↦ evened-is (a + b / 2 - loss) b e ∙ omega (arith, z)
+          | no n ↦ evened-not (a + b / 2 - loss) b n ∙ z
+        ]

@@ -5,3 +5,4 @@ pub mod Arithmetic
 pub mod Scan
 pub mod Lists
 pub mod Order
+pub mod Private

@@ -2,6 +2,7 @@
 ghost use mathlib.Core.Path.{_≡_};
 ghost use Prim.Native.Nat.{_+_, _-_, _≤_, _<_, min, max};
 ghost use Rattle.numbers.specs.Near.{near};
+ghost use Rattle.numbers.specs.Private.{evened};
 ghost use Rattle.numbers.specs.Whole.{up, down};
 
 // near(a / b), for any a and b. As near's definition has it, a quotient by zero is 0.
@@ -13,15 +14,28 @@ pub fn near(a: u64, b: u64) -> u64
     }
     let q = a / b;
     let r = a % b;
-    if r < b - r { q } else { q + 1 }
+    if b - r < r + q % 2 { q + 1 } else { q }
 }
 
-// The same where b is above 0 and its half can be added to a: nothing follows the division.
+// The whole part of h / b, and where nothing is left over and b is even, the even one of it and the one below.
+fn evened(h: u64, b: u64) -> u64
+    requires { ⌜ 0 < b ⌝ }
+    ensures { λ r. ⌜ r ≡ evened h b ⌝ }
+{
+    let whole = h / b;
+    if h % b + b % 2 == 0 {
+        whole - whole % 2
+    } else {
+        whole
+    }
+}
+
+// The same where b is above 0 and its half can be added to a.
 pub fn near_small(a: u64, b: u64) -> u64
     requires { ⌜ (0 < b) × (a + b ≤ 18446744073709551615) ⌝ }
     ensures { λ r. ⌜ r ≡ near a b ⌝ }
 {
-    (a + b / 2) / b
+    evened(a + b / 2, b)
 }
 
 // What is left of two gains, and 0 where the loss is larger. Only one step follows `last`.
@@ -42,7 +56,7 @@ pub fn near_balance(last: u64, first: u64, loss: u64, b: u64) -> u64
     requires { ⌜ (0 < b) × (last + first + b ≤ 18446744073709551615) ⌝ }
     ensures { λ r. ⌜ r ≡ near (last + first - loss) b ⌝ }
 {
-    balance(last, first + b / 2, loss) / b
+    evened(balance(last, first + b / 2, loss), b)
 }
 
 pub fn least(a: usize, b: usize) -> usize

@@ -39,8 +39,9 @@ lists =
     -- base all of the flow, and none of it
     ∷ record { days = 7 ∷ 8 ∷ []; base = 7000 ∷ 8000 ∷ []; answer = values 2 15 15000 0 10000 }
     ∷ record { days = 7 ∷ 8 ∷ []; base = 0 ∷ 0 ∷ []; answer = values 2 15 0 15000 0 }
-    -- half a ten-thousandth goes up
-    ∷ record { days = 20 ∷ []; base = 1 ∷ []; answer = values 1 20 1 19999 1 }
+    -- half a ten-thousandth goes to the even one
+    ∷ record { days = 20 ∷ []; base = 1 ∷ []; answer = values 1 20 1 19999 0 }
+    ∷ record { days = 20 ∷ []; base = 3 ∷ []; answer = values 1 20 3 19997 2 }
     ∷ record { days = 21 ∷ []; base = 1 ∷ []; answer = values 1 21 1 20999 0 }
     -- 20: a base value on a missing day, be it 0
     ∷ record { days = 10 ∷ gap ∷ []; base = 5000 ∷ 5000 ∷ []; answer = refused 20 }

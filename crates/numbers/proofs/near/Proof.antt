@@ -19,14 +19,17 @@ returns c = sym (ap (near (c .before .args .a)) (c .if1 .taken) ∙ near-by-zero
 sub-if2 : tie.Need-sub-if2
 sub-if2 c = le-of-lt (mod-lt (c .before .args .a) (above-zero c))
 
+add-if2 : tie.Need-add-if2
+add-if2 c = omega (arith, c .before .fits, mod-lt (c .before .args .a) (above-zero c))
+
 add-result : tie.Need-add-result
-add-result c = omega (arith, up-fits (c .before .before .args .a) (c .before .before .args .b) (above-zero (c .before)) (c .if2 .left))
+add-result c = omega (arith, c .before .before .fits, up-fits (c .before .before .args .a) (c .before .before .args .b) (above-zero (c .before)) (c .if2 .taken))
 
 returns-2 : tie.Need-returns-2
-returns-2 c = sym (near-down (c .before .before .args .a) (c .before .before .args .b) (above-zero (c .before)) (c .if2 .taken))
+returns-2 c = sym (near-up (c .before .before .args .a) (c .before .before .args .b) (above-zero (c .before)) (c .if2 .taken))
 
 returns-3 : tie.Need-returns-3
-returns-3 c = sym (near-up (c .before .before .args .a) (c .before .before .args .b) (above-zero (c .before)) (c .if2 .left))
+returns-3 c = sym (near-down (c .before .before .args .a) (c .before .before .args .b) (above-zero (c .before)) (c .if2 .left))
 
 pub near-spec : {M : Type 1} → statement M
-near-spec = tie.close (tie.spec returns (λ c. search needs) (λ c. search needs) sub-if2 add-result returns-2 returns-3)
+near-spec = tie.close (tie.spec returns (λ c. search needs) (λ c. search needs) sub-if2 add-if2 add-result returns-2 returns-3)
