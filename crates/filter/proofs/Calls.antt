@@ -1,16 +1,15 @@
 -- The two calls by their causes: what an accepted call has passed and leaves, and what a refusal hands back.
 -- Assumes nothing.
 use Prim.Native.Nat.{ℕ, _≤_}
-use mathlib.Core.Path.{_≡_, refl}
+use mathlib.Core.Path.{_≡_, refl, sym, _∙_}
 use mathlib.Core.Bool.{true, false}
 use mathlib.Core.List.{List}
 use mathlib.Core.Option.{none, some}
 use lib.IntN.{pos}
 use lib.ListN.{length}
 use borrow.Author.Tests.{eq-eqb}
-use Rattle.series.specs.Units.{isInvalidDay, dayOf}
-use Rattle.series.specs.Causes.{firstCause, accepted, refused, Decides}
-use Rattle.series.specs.declared.Verdict.{Verdict}
+use Rattle.series.specs.Units.{isInvalidDay, dayOf, baseOf}
+use Rattle.series.specs.Causes.{firstCause, accepted, refused}
 use Rattle.series.specs.Lists.{tooLong, anyInvalidDay}
 use Rattle.series.proofs.Views.{lies-within}
 use Rattle.series.proofs.Tests.{same-length, not-different}
@@ -19,7 +18,7 @@ use Rattle.filter.specs.declared.Setting.{Setting}
 use Rattle.filter.specs.declared.DailyFilter.{DailyFilter}
 use Rattle.filter.specs.Methods.{methodOf, unknownMethod, outOfRange, spans, inRange, invalidPasses, Usable}
 use Rattle.filter.specs.Daily.{invalidYesterday, baseOn, stateAfter}
-use Rattle.filter.specs.Private.{stateCauses}
+use Rattle.filter.proofs.Days.{Advance, value-shown}
 use Rattle.filter.specs.Call.{filterCauses, filteredList, filterLeaves, stepCauses, stepRule}
 
 -- method 1 by its range
@@ -88,9 +87,13 @@ module _ (s : Setting) (st : DailyFilter) (day : ℕ) where
   unfolding stepCauses
   range-first e h = rw (e, h)
 
-  pub decides-step : Usable s → {v : Verdict} → Decides (stateCauses st day) v → Decides (stepCauses s st day) v
-  unfolding stepCauses stateCauses
-  decides-step u d = record { first = rw (u .known, u .in-range) (d .first) }
+  pub state-first : Usable s → invalidYesterday (st .yesterday) ≡ true → firstCause (stepCauses s st day) ≡ some 15
+  unfolding stepCauses
+  state-first u e = rw (u .known, u .in-range, e)
+
+  pub day-first : Usable s → invalidYesterday (st .yesterday) ≡ false → isInvalidDay day ≡ true → firstCause (stepCauses s st day) ≡ some 10
+  unfolding stepCauses
+  day-first u e h = rw (u .known, u .in-range, e, h)
 
   -- what it hands out
   pub hands-back : {k : ℕ} → firstCause (stepCauses s st day) ≡ some k → stepRule s st day ≡ record { outcome = refused k; state = st }
@@ -100,3 +103,8 @@ module _ (s : Setting) (st : DailyFilter) (day : ℕ) where
   pub hands-on : firstCause (stepCauses s st day) ≡ none → stepRule s st day ≡ record { outcome = accepted (baseOn s st (dayOf day)); state = stateAfter s st (dayOf day) }
   unfolding stepRule
   hands-on e = λ i. record { outcome = outcome-accepted (stepCauses s st day) (baseOn s st (dayOf day)) e i; state = leaves-accepted (stepCauses s st day) (stateAfter s st (dayOf day)) st e i }
+
+  -- of a day that was advanced
+  pub stepped : {st′ : DailyFilter} {b : ℕ} → StepAccepts s st day → Advance s st day st′ b → record { outcome = accepted (baseOf b); state = st′ } ≡ stepRule s st day
+  stepped a r =
+      (λ i. record { outcome = accepted (value-shown s st (dayOf day) (r .0 .0) (r .0 .1) (r .1 .0) i); state = r .0 .0 i }) ∙ sym (hands-on (step-accepts a))

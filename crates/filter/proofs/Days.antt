@@ -53,11 +53,11 @@ abbrev pub Advance : Setting → DailyFilter → (day : ℕ) → DailyFilter →
 Advance s st d st′ b = ((st′ ≡ dayState s st d) × (b ≡ dayMark s st d)) × ((invalidYesterday (st′ .yesterday) ≡ false) × SmallBase b)
 
 module _ (s : Setting) (st : DailyFilter) (d : ℕ) where
-  pub missing-day : {st′ : DailyFilter} → d ≡ missingMark → st′ ≡ fresh → Advance s st d st′ noValueMark
+  pub missing-day : {st′ : DailyFilter} {b : ℕ} → d ≡ missingMark → (st′ ≡ fresh) × (b ≡ noValueMark) → Advance s st d st′ b
   unfolding stateAfter baseOn invalidYesterday
   missing-day e f =
       let m = day-missing d e in
-      ((f ∙ sym (ap (stateAfter s st) m), sym (rw m mark-none)), (ap (λ x. invalidYesterday (x .yesterday)) f, inl refl))
+      ((f .0 ∙ sym (ap (stateAfter s st) m), f .1 ∙ sym (rw m mark-none)), (ap (λ x. invalidYesterday (x .yesterday)) (f .0), inl (f .1)))
 
   pub present-day : {b : ℕ} → (d ≡ missingMark → ⊥) → d ≤ flowLimit → b ≡ dayBase s (st .yesterday) d → b ≤ 1000 * d → Advance s st d (after d b) b
   unfolding stateAfter baseOn invalidYesterday
@@ -77,3 +77,7 @@ value-shown s st (some y) e h v =
     let f = dayBase s (st .yesterday) y in
     let l = valid-yesterday refl (subst (λ x. invalidYesterday (x .yesterday) ≡ false) e v) in
     ap baseOf h ∙ seen-value f (λ m. absurd (omega arith))
+
+-- a state is its yesterday
+pub same-state : (st : DailyFilter) {yd : Yesterday} → st .yesterday ≡ yd → record { yesterday = yd } ≡ st
+same-state st e = ap (λ y. record { yesterday = y }) (sym e)

@@ -1,6 +1,6 @@
 -- The methods by their numbers, the tests of a setting as the code makes them, and the rounding step.
 -- Assumes nothing.
-use Prim.Native.Nat.{ℕ, zero, suc, _+_, _*_, _-_, _≤_, _<_}
+use Prim.Native.Nat.{ℕ, zero, suc, _+_, _*_, _-_, _/_, _≤_, _<_}
 use mathlib.Core.Path.{_≡_, refl, sym, _∙_, ap, ap₂, subst}
 use mathlib.Core.Bool.{Bool, true, false, false≢true, not, cond, _&&_}
 use native.Mathlib.Nat.{min-eq-left, min-eq-right, min-le-left, mul-le-mul}
@@ -13,11 +13,13 @@ use Rattle.numbers.specs.Whole.{up, down}
 use Rattle.numbers.specs.Arithmetic.{rounded, Weights, weighted}
 use Rattle.numbers.specs.Near.{near}
 use Rattle.numbers.proofs.Whole.{up-of-multiple, down-of-multiple}
+use Rattle.numbers.proofs.Signs.{up-by-sign, down-by-sign}
 use Rattle.numbers.proofs.Quantities.{weighted-rounded}
 use Rattle.filter.specs.declared.Setting.{Setting}
 use Rattle.filter.specs.Methods.{Method, lyne-hollick, chapman-1991, chapman-maxwell, boughton, eckhardt, tularam-ilahee, jakeman-hornberger, methodOf, methodWeights, weights, methodRange, methodSpan, spans, inRange, methodStart, start, outOfRange, Usable}
 use Rattle.filter.specs.Passes.{step}
-use Rattle.filter.specs.Private.{Moderate, Small}
+use Rattle.filter.specs.declared.method.Coefficients.{Coefficients}
+use Rattle.filter.specs.Private.{weightsOf, Moderate, Small, dividend}
 use Rattle.filter.proofs.Table.{MethodLimits, row, limits}
 
 and-true : (b : Bool) → (b && true) ≡ b
@@ -100,25 +102,23 @@ module _ {s : Setting} {m : Method} (u : Usable s) (e : methodOf (s .method) ≡
   unfolding weights
   row-at = subst (λ k. (methodWeights k s ≡ methodWeights (methodOf (s .method)) s) × Moderate (methodWeights k s)) e (refl, row u .moderate)
 
--- the row of method 7, with the two parts of s as the code has them
-module _ (s : Setting) {a b : ℕ} (e : a ≡ up (s .s)) (f : b ≡ down (s .s)) where
+-- the row of method 7, with the size and the sign of s as the code has them
+module _ (s : Setting) {n : ℕ} {t : Bool} (e : n ≡ up (s .s) + down (s .s)) (f : t ≡ ltZ (s .s) (pos 0)) where
   abbrev signed-row : Weights
-  signed-row = record { A = 10000 * s .p; B = 10000 * s .q; C = a * s .q; E = b * s .q; d = 10000 * (10000 + s .q) }
+  signed-row = record { A = 10000 * s .p; B = 10000 * s .q; C = cond t 0 (n * s .q); E = cond t (n * s .q) 0; d = 10000 * (10000 + s .q) }
 
   same-row : signed-row ≡ methodWeights jakeman-hornberger s
   unfolding methodWeights
-  same-row = ap₂ (λ c k. record { A = 10000 * s .p; B = 10000 * s .q; C = c; E = k; d = 10000 * (10000 + s .q) }) (ap (λ n. n * s .q) e ∙ sym (up-of-multiple (s .s) (s .q))) (ap (λ n. n * s .q) f ∙ sym (down-of-multiple (s .s) (s .q)))
+  same-row =
+      ap₂ (λ c k. record { A = 10000 * s .p; B = 10000 * s .q; C = c; E = k; d = 10000 * (10000 + s .q) })
+      (ap₂ (λ b k. cond b 0 (k * s .q)) f e ∙ up-by-sign (s .s) (s .q) ∙ sym (up-of-multiple (s .s) (s .q)))
+      (ap₂ (λ b k. cond b (k * s .q) 0) f e ∙ down-by-sign (s .s) (s .q) ∙ sym (down-of-multiple (s .s) (s .q)))
 
-  module _ (u : Usable s) (m : methodOf (s .method) ≡ jakeman-hornberger) where
-    pub signed-products : (a * s .q ≤ 100000000) × (b * s .q ≤ 100000000)
-    signed-products =
-        let l = limits-at u m in
-        let small-a : a ≤ 9999 = omega (arith, l .4) in
-        let small-b : b ≤ 9999 = omega (arith, l .5) in
-        (omega (arith, mul-le-mul small-a (l .3)), omega (arith, mul-le-mul small-b (l .3)))
+  pub row-7 : Usable s → methodOf (s .method) ≡ jakeman-hornberger → (signed-row ≡ weights s) × Moderate signed-row
+  row-7 u m = let r = row-at u m in (same-row ∙ r .0, subst Moderate (sym same-row) (r .1))
 
-    pub row-7 : (signed-row ≡ weights s) × Moderate signed-row
-    row-7 = let r = row-at u m in (same-row ∙ r .0, subst Moderate (sym same-row) (r .1))
+pub signed-product : (s : Setting) (n : ℕ) → n ≡ up (s .s) + down (s .s) → Usable s → methodOf (s .method) ≡ jakeman-hornberger → n * s .q ≤ 200000000
+signed-product s n e u m = let l = limits-at u m in let small : n ≤ 19998 = omega (arith, e, l) in omega (arith, mul-le-mul small (l .3))
 
 -- the usual start, in method 5 and in all others
 module _ (s : Setting) (y : ℕ) where
@@ -138,29 +138,40 @@ module _ (s : Setting) (y : ℕ) where
       pick false false false false true = refl
       pick false false false false false = refl
 
--- the rounded mean as the code makes it, and what is held to u of it
-module _ (w : Weights) (f u v : ℕ) {n : ℕ} where
-  module _ (near-left : n ≡ near (w .A * f + (w .B * u + w .C * v) - w .E * v) (w .d)) where
-    mean : n ≡ weighted rounded w f u v
-    mean =
-        let same : w .A * f + (w .B * u + w .C * v) - w .E * v ≡ w .A * f + w .B * u + w .C * v - w .E * v = omega arith in
-        near-left ∙ ap (λ m. near m (w .d)) same ∙ sym (weighted-rounded w f u v)
+-- the weights that the code carries, where C lowers the sum and where not
+module _ (w : Coefficients) where
+  abbrev signed : Bool → Weights
+  signed t = record { A = w .a; B = w .b; C = cond t 0 (w .c); E = cond t (w .c) 0; d = w .d }
 
-    pub step-capped : u < n → u ≡ step rounded w f u v
-    unfolding step
-    step-capped l = sym (min-eq-left (omega (arith, mean)))
+  -- each times its value
+  pub products-small : {f u v : ℕ} → Moderate (weightsOf w) → Small f × Small u × Small v → (w .a * f ≤ 1000000000000000000) × (w .b * u ≤ 1000000000000000000) × (w .c * v ≤ 1000000000000000000) × (w .d ≤ 200000000)
+  products-small m h = (mul-le-mul (m .a) (h .0), mul-le-mul (m .b) (h .1), mul-le-mul (size (w .lowers) (m .c) (m .e)) (h .2), m .d)
+    where
+      size : (t : Bool) → cond t 0 (w .c) ≤ 100000000 → cond t (w .c) 0 ≤ 100000000 → w .c ≤ 100000000
+      size true c e = e
+      size false c e = c
 
-    pub step-mean : n ≤ u → n ≡ step rounded w f u v
-    unfolding step
-    step-mean l = mean ∙ sym (min-eq-right (omega (arith, mean)))
+  -- the sum as the code makes it
+  module _ (f u v : ℕ) {n : ℕ} where
+    pub sum-lowered : w .lowers ≡ true → n ≡ w .a * f + (w .b * u + w .d / 2) - w .c * v → n ≡ dividend (weightsOf w) f u v
+    sum-lowered e h = h ∙ omega arith ∙ ap (λ t. dividend (signed t) f u v) (sym e)
+
+    pub sum-raised : w .lowers ≡ false → n ≡ w .a * f + (w .b * u + w .d / 2 + w .c * v) → n ≡ dividend (weightsOf w) f u v
+    sum-raised e h = h ∙ omega arith ∙ ap (λ t. dividend (signed t) f u v) (sym e)
+
+-- the rounded mean, and what is held to u of it
+module _ (w : Weights) (f u v : ℕ) {n h : ℕ} (near-of : (a loss : ℕ) → h ≡ a + w .d / 2 - loss → n ≡ near (a - loss) (w .d)) (sum : h ≡ dividend w f u v) where
+  mean : n ≡ weighted rounded w f u v
+  mean = near-of (w .A * f + w .B * u + w .C * v) (w .E * v) sum ∙ sym (weighted-rounded w f u v)
+
+  pub step-capped : u < n → u ≡ step rounded w f u v
+  unfolding step
+  step-capped l = sym (min-eq-left (omega (arith, mean)))
+
+  pub step-mean : n ≤ u → n ≡ step rounded w f u v
+  unfolding step
+  step-mean l = mean ∙ sym (min-eq-right (omega (arith, mean)))
 
 pub step-below : (w : Weights) (f u v : ℕ) → step rounded w f u v ≤ u
 unfolding step
 step-below w f u v = min-le-left u _
-
--- each weight times its value
-abbrev pub SmallProducts : Weights → (f u v : ℕ) → Type 0
-SmallProducts w f u v = (w .A * f ≤ 1000000000000000000) × (w .B * u ≤ 1000000000000000000) × (w .C * v ≤ 1000000000000000000) × (w .E * v ≤ 1000000000000000000)
-
-pub products-small : {w : Weights} {f u v : ℕ} → Moderate w → Small f × Small u × Small v → SmallProducts w f u v
-products-small m h = (mul-le-mul (m .a) (h .0), mul-le-mul (m .b) (h .1), mul-le-mul (m .c) (h .2), mul-le-mul (m .e) (h .2))

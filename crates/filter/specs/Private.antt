@@ -1,8 +1,9 @@
 -- What the private functions ask of their arguments, so that no sum overflows, and the passes as their loops run them,
 -- over the numbers of a list in memory. No public promise speaks of these: proofs/GapRuns.antt shows that the loops' runs
 -- are the passes of specs/Passes.antt.
-use Prim.Native.Nat.{ℕ, _≤_, _<_}
+use Prim.Native.Nat.{ℕ, _+_, _*_, _-_, _/_, _≤_, _<_}
 use mathlib.Core.Path.{_≡_}
+use mathlib.Core.Bool.{cond}
 use mathlib.Core.List.{List, [], _∷_, reverse}
 use mathlib.Core.Logic.{_⊎_}
 use mathlib.Core.Option.{Option, none, some}
@@ -10,7 +11,6 @@ use lib.ListN.{getD}
 use Rattle.numbers.specs.Arithmetic.{rounded, Weights}
 use Rattle.numbers.specs.Scan.{scan}
 use Rattle.series.specs.Units.{noValueMark, isInvalidDay, dayOf, baseOf, baseMark}
-use Rattle.series.specs.Causes.{Cause, cause}
 use Rattle.filter.specs.declared.Setting.{Setting}
 use Rattle.filter.specs.declared.DailyFilter.{DailyFilter}
 use Rattle.filter.specs.declared.method.Coefficients.{Coefficients}
@@ -19,13 +19,9 @@ use Rattle.filter.specs.declared.pass.Previous.the-variants.{Nothing, Da
 use Rattle.filter.specs.Passes.{step}
 use Rattle.filter.specs.Daily.{fresh, invalidYesterday, baseOn, stateAfter}
 
--- the causes of the step that lie in the state and the day
-unfoldable pub stateCauses : DailyFilter → ℕ → List Cause
-stateCauses st day = cause (invalidYesterday (st .yesterday)) 15 ∷ cause (isInvalidDay day) 10 ∷ []
-
 -- the weights that the code carries
 abbrev pub weightsOf : Coefficients → Weights
-weightsOf w = record { A = w .a; B = w .b; C = w .c; E = w .e; d = w .d }
+weightsOf w = record { A = w .a; B = w .b; C = cond (w .lowers) 0 (w .c); E = cond (w .lowers) (w .c) 0; d = w .d }
 
 -- none above 10^8, a d of at most twice that, and one to divide by
 pub record Moderate (w : Weights) : Type 0 where
@@ -35,6 +31,10 @@ pub record Moderate (w : Weights) : Type 0 where
   pub e : w .E ≤ 100000000
   pub d : w .d ≤ 200000000
   pub above : 0 < w .d
+
+-- the sum over the fraction line, with one half of d
+abbrev pub dividend : Weights → (f u v : ℕ) → ℕ
+dividend w f u v = w .A * f + w .B * u + w .C * v + w .d / 2 - w .E * v
 
 -- at most the largest flow, in thousandths
 abbrev pub Small : ℕ → Type 0

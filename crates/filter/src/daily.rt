@@ -8,17 +8,14 @@ use crate::method::Coefficients;
 use crate::method::out_of_range;
 use crate::method::unknown_method;
 use series::Refusal;
-use series::Verdict;
-use series::refuse_if;
 ghost use mathlib.Core.Path.{_≡_};
 ghost use mathlib.Core.Bool.{false};
-ghost use Prim.Native.Nat.{_*_, _≤_};
-ghost use Rattle.series.specs.Units.{isInvalidDay};
-ghost use Rattle.series.specs.Causes.{Decides};
+ghost use Rattle.series.specs.Units.{isInvalidDay, noValueMark};
 ghost use Rattle.filter.specs.Methods.{weights, Usable};
-ghost use Rattle.filter.specs.Daily.{fresh, invalidYesterday, dayBase};
+ghost use Rattle.filter.specs.declared.Yesterday.the-variants.{Known};
+ghost use Rattle.filter.specs.Daily.{fresh, after, invalidYesterday};
 ghost use Rattle.filter.specs.Call.{stepRule, outcomeOf};
-ghost use Rattle.filter.specs.Private.{weightsOf, Moderate, SmallBase, stateCauses, dayState, dayMark};
+ghost use Rattle.filter.specs.Private.{weightsOf, Moderate, SmallBase, dayState, dayMark};
 
 // A day's base value, and the state after it.
 pub struct Advanced {
@@ -26,16 +23,11 @@ pub struct Advanced {
     pub base: u64,
 }
 
-// 15: the state's flow is over its limit, or its base over 1000 × the flow.
-fn invalid_yesterday(yesterday: Yesterday) -> bool
-    ensures { λ r. ⌜ r ≡ invalidYesterday yesterday ⌝ }
+// 15: yesterday's flow is over its limit, or its base over 1000 × the flow.
+fn invalid_yesterday(flow: u32, base: u64) -> bool
+    ensures { λ r. ⌜ r ≡ invalidYesterday (Known flow base) ⌝ }
 {
-    match yesterday {
-        Yesterday::Unknown => false,
-        Yesterday::Known { flow, base } => {
-            DailyFilter::FLOW_LIMIT < flow || 1000 * (flow as u64) < base
-        }
-    }
+    DailyFilter::FLOW_LIMIT < flow || 1000 * (flow as u64) < base
 }
 
 impl DailyFilter {
@@ -70,30 +62,60 @@ impl DailyFilter {
             };
         }
         let w = method::table_row(setting);
-        let verdict = check_state(self, day);
-        if let Verdict::Refused(refusal) = verdict {
-            return Step::Refused {
-                refusal,
-                state: self,
-            };
-        }
-        let next = advance(self, setting, w, day);
-        let state = next.state;
-        Step::Next {
-            state,
-            base: next.base,
+        let yesterday = self.yesterday;
+        match yesterday {
+            Yesterday::Unknown => first_step(setting, day),
+            Yesterday::Known { flow, base } => next_step(setting, w, flow, base, day),
         }
     }
 }
 
-// The causes of refusal that lie in the state and the day, in their order.
-fn check_state(state: DailyFilter, day: u32) -> Verdict
-    ensures { λ r. ⌜ Decides (stateCauses state day) r ⌝ }
+// The step of a setting that can be used, without a yesterday: of the causes 10 is left.
+fn first_step(setting: Setting, day: u32) -> Step
+    requires { ⌜ Usable setting ⌝ }
+    ensures { λ r. ⌜ outcomeOf r ≡ stepRule setting fresh day ⌝ }
 {
-    let yesterday = state.yesterday;
-    let v = Verdict::Accepted;
-    let v = refuse_if(v, invalid_yesterday(yesterday), Refusal::InvalidState);
-    refuse_if(v, series::is_invalid_day(day), Refusal::InvalidDay)
+    if series::is_invalid_day(day) {
+        return Step::Refused {
+            refusal: Refusal::InvalidDay,
+            state: DailyFilter::fresh(),
+        };
+    }
+    let next = started(setting, day);
+    let state = next.state;
+    Step::Next {
+        state,
+        base: next.base,
+    }
+}
+
+// The step with a yesterday: of the causes 15 and 10 are left.
+fn next_step(setting: Setting, w: Coefficients, flow: u32, base: u64, day: u32) -> Step
+    requires { ⌜ Usable setting ⌝ }
+    requires { ⌜ (weightsOf w ≡ weights setting) × Moderate (weightsOf w) ⌝ }
+    ensures { λ r. ⌜ outcomeOf r ≡ stepRule setting (after flow base) day ⌝ }
+{
+    let state = DailyFilter {
+        yesterday: Yesterday::Known { flow, base },
+    };
+    if invalid_yesterday(flow, base) {
+        return Step::Refused {
+            refusal: Refusal::InvalidState,
+            state,
+        };
+    }
+    if series::is_invalid_day(day) {
+        return Step::Refused {
+            refusal: Refusal::InvalidDay,
+            state,
+        };
+    }
+    let next = carried(setting, w, flow, base, day);
+    let state = next.state;
+    Step::Next {
+        state,
+        base: next.base,
+    }
 }
 
 // The step over input that has passed its checks: what pass 1 does with each day.
@@ -104,14 +126,33 @@ pub(crate) fn advance(state: DailyFilter, setting: Setting, w: Coefficients, day
     ensures { λ r. ⌜ (r .state ≡ dayState setting state day) × (r .base ≡ dayMark setting state day) ⌝ }
     ensures { λ r. ⌜ (invalidYesterday (r .state .yesterday) ≡ false) × SmallBase (r .base) ⌝ }
 {
-    if day == series::MISSING {
-        return Advanced {
-            state: DailyFilter::fresh(),
-            base: series::NO_VALUE,
-        };
-    }
     let yesterday = state.yesterday;
-    let base = day_base(setting, w, yesterday, day);
+    match yesterday {
+        Yesterday::Unknown => started(setting, day),
+        Yesterday::Known { flow, base } => carried(setting, w, flow, base, day),
+    }
+}
+
+// A missing day.
+fn missing() -> Advanced
+    ensures { λ r. ⌜ (r .state ≡ fresh) × (r .base ≡ noValueMark) ⌝ }
+{
+    Advanced {
+        state: DailyFilter::fresh(),
+        base: series::NO_VALUE,
+    }
+}
+
+// A day without a yesterday: missing, or a segment's first.
+fn started(setting: Setting, day: u32) -> Advanced
+    requires { ⌜ Usable setting × (isInvalidDay day ≡ false) ⌝ }
+    ensures { λ r. ⌜ (r .state ≡ dayState setting fresh day) × (r .base ≡ dayMark setting fresh day) ⌝ }
+    ensures { λ r. ⌜ (invalidYesterday (r .state .yesterday) ≡ false) × SmallBase (r .base) ⌝ }
+{
+    if day == series::MISSING {
+        return missing();
+    }
+    let base = method::first_day(setting, day as u64);
     let known = Yesterday::Known { flow: day, base };
     Advanced {
         state: DailyFilter { yesterday: known },
@@ -119,21 +160,25 @@ pub(crate) fn advance(state: DailyFilter, setting: Setting, w: Coefficients, day
     }
 }
 
-// The base value of a present day.
-fn day_base(setting: Setting, w: Coefficients, yesterday: Yesterday, flow: u32) -> u64
-    requires { ⌜ Usable setting ⌝ }
+// A day behind one of flow `flow` and base `base`.
+fn carried(setting: Setting, w: Coefficients, flow: u32, base: u64, day: u32) -> Advanced
     requires { ⌜ (weightsOf w ≡ weights setting) × Moderate (weightsOf w) ⌝ }
-    requires { ⌜ (invalidYesterday yesterday ≡ false) × (flow ≤ 10000000) ⌝ }
-    ensures { λ r. ⌜ (r ≡ dayBase setting yesterday flow) × (r ≤ 1000 * flow) ⌝ }
+    requires { ⌜ (invalidYesterday (Known flow base) ≡ false) × (isInvalidDay day ≡ false) ⌝ }
+    ensures { λ r. ⌜ (r .state ≡ dayState setting (after flow base) day) × (r .base ≡ dayMark setting (after flow base) day) ⌝ }
+    ensures { λ r. ⌜ (invalidYesterday (r .state .yesterday) ≡ false) × SmallBase (r .base) ⌝ }
 {
-    let y = flow as u64;
-    match yesterday {
-        Yesterday::Unknown => method::first_day(setting, y),
-        Yesterday::Known { flow: x, base } => method::smoothed(
-            w,
-            base,
-            1000 * y,
-            1000 * (x as u64),
-        ),
+    if day == series::MISSING {
+        return missing();
+    }
+    let u = 1000 * (day as u64);
+    let v = 1000 * (flow as u64);
+    let value = method::smoothed(w, base, u, v);
+    let known = Yesterday::Known {
+        flow: day,
+        base: value,
+    };
+    Advanced {
+        state: DailyFilter { yesterday: known },
+        base: value,
     }
 }

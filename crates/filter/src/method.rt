@@ -8,14 +8,14 @@ ghost use Prim.Native.Nat.{_≤_};
 ghost use Rattle.numbers.specs.Arithmetic.{rounded};
 ghost use Rattle.filter.specs.Methods.{methodOf, methodRange, methodSpan, spans, weights, start, unknownMethod, outOfRange, invalidPasses, Usable};
 ghost use Rattle.filter.specs.Passes.{step};
-ghost use Rattle.filter.specs.Private.{weightsOf, Moderate, Small};
+ghost use Rattle.filter.specs.Private.{weightsOf, Moderate, Small, dividend};
 
-// The A, B, C and d of a setting. C is c - e, its part above zero and its part below zero.
+// The A, B, C and d of a setting. C is c, or -c where it lowers the sum.
 pub struct Coefficients {
     pub a: u64,
     pub b: u64,
     pub c: u64,
-    pub e: u64,
+    pub lowers: bool,
     pub d: u64,
 }
 
@@ -122,49 +122,49 @@ pub(crate) fn table_row(setting: Setting) -> Coefficients
             a: 2 * p,
             b: 10_000 - p,
             c: 10_000 - p,
-            e: 0,
+            lowers: false,
             d: 20_000,
         },
         2 => Coefficients {
             a: 3 * p - 10_000,
             b: 10_000 - p,
             c: 10_000 - p,
-            e: 0,
+            lowers: false,
             d: 30_000 - p,
         },
         3 => Coefficients {
             a: p,
             b: 10_000 - p,
             c: 0,
-            e: 0,
+            lowers: false,
             d: 20_000 - p,
         },
         4 => Coefficients {
             a: p,
             b: q,
             c: 0,
-            e: 0,
+            lowers: false,
             d: 10_000 + q,
         },
         5 => Coefficients {
             a: p * (10_000 - q),
             b: (10_000 - p) * q,
             c: 0,
-            e: 0,
+            lowers: false,
             d: 100_000_000 - p * q,
         },
         7 => Coefficients {
             a: 10_000 * p,
             b: 10_000 * q,
-            c: numbers::above_zero(setting.s) * q,
-            e: numbers::below_zero(setting.s) * q,
+            c: numbers::magnitude(setting.s) * q,
+            lowers: setting.s < 0,
             d: 10_000 * (10_000 + q),
         },
         _ => Coefficients {
             a: p,
             b: 10_000 - p,
             c: 0,
-            e: 0,
+            lowers: false,
             d: 10_000,
         },
     }
@@ -183,12 +183,26 @@ pub(crate) fn first_day(setting: Setting, flow: u64) -> u64
     }
 }
 
+// What the weighted mean divides by d, with half of d added: the part that the day before left comes last.
+fn sum(w: Coefficients, f: u64, u: u64, v: u64) -> u64
+    requires { ⌜ Moderate (weightsOf w) ⌝ }
+    requires { ⌜ (Small f × Small u × Small v) ⌝ }
+    ensures { λ r. ⌜ r ≡ dividend (weightsOf w) f u v ⌝ }
+{
+    let change = w.c * v;
+    let brought = w.b * u + w.d / 2;
+    if w.lowers {
+        return numbers::balance(w.a * f, brought, change);
+    }
+    w.a * f + (brought + change)
+}
+
 // f(t), from f = f(t-1), u = u(t) and v = u(t-1).
 pub(crate) fn smoothed(w: Coefficients, f: u64, u: u64, v: u64) -> u64
     requires { ⌜ Moderate (weightsOf w) ⌝ }
     requires { ⌜ (Small f × Small u × Small v) ⌝ }
     ensures { λ r. ⌜ r ≡ step rounded (weightsOf w) f u v ⌝ }
 {
-    let rounded = numbers::near_balance(w.a * f, w.b * u + w.c * v, w.e * v, w.d);
+    let rounded = numbers::near_halved(sum(w, f, u, v), w.d);
     if u < rounded { u } else { rounded }
 }

@@ -3,16 +3,18 @@ ghost use mathlib.Core.Path.{_≡_};
 ghost use Prim.Native.Nat.{_≤_};
 ghost use lib.ListN.{length};
 ghost use Rattle.numbers.specs.Arithmetic.{rounded};
+ghost use Rattle.minima.specs.Blocks.{flowOn};
 ghost use Rattle.minima.specs.Line.{between};
 ghost use Rattle.minima.specs.Private.{Span, FilledTo, Blank};
 
-// The straight line from turning point to turning point, and at most the flow.
-fn between(days: &[u32], left: usize, right: usize, t: usize) -> u64
+// The straight line from turning point to turning point, whose flows are `first` and `last`, and at most the flow.
+fn between(days: &[u32], first: u32, last: u32, left: usize, right: usize, t: usize) -> u64
     requires { ⌜ (left ≤ t) × (t ≤ right) × Span (now days) left right ⌝ }
+    requires { ⌜ (first ≡ flowOn (now days) left) × (last ≡ flowOn (now days) right) ⌝ }
     ensures { λ r. ⌜ r ≡ between rounded (now (days .entry)) left right t ⌝ }
 {
-    let from_left = (days[left] as u64) * ((right - t) as u64);
-    let from_right = (days[right] as u64) * ((t - left) as u64);
+    let from_left = (first as u64) * ((right - t) as u64);
+    let from_right = (last as u64) * ((t - left) as u64);
     let straight = numbers::near_small(1000 * (from_left + from_right), (right - left) as u64);
     let top = 1000 * (days[t] as u64);
     if top < straight { top } else { straight }
@@ -23,9 +25,11 @@ pub(crate) fn fill(days: &[u32], base: &mut [u64], left: usize, right: usize, fr
     requires { ⌜ (left ≤ from) × Span (now days) left right × (length (now days) ≡ length (now base)) ⌝ }
     ensures { λ _. ⌜ FilledTo (now (days .entry)) left right from (now (base .entry)) (now (base .exit)) ⌝ }
 {
+    let first = days[left];
+    let last = days[right];
     let mut t = from;
     while t <= right {
-        base[t] = between(days, left, right, t);
+        base[t] = between(days, first, last, left, right, t);
         t += 1;
     }
 }

@@ -11,7 +11,6 @@ use native.Mathlib.Nat.{eq-of-mul-eq-mul-left, mul-pos, mul-le-mul-right, mul-le
 use native.Mathlib.Decide.{decLe, ℕ-discrete}
 use native.Mathlib.Omega.{arith}
 use Rattle.numbers.specs.Near.{near, distance, Nearest, NearestHalvesEven}
-use Rattle.numbers.specs.Private.{evened}
 
 -- n lies at most one half from a / b
 pub record HalfError (a b n : ℕ) : Type 0 where
@@ -169,44 +168,22 @@ module _ (a b : ℕ) (p : 0 < b) where
 pub up-fits : (a b : ℕ) → 0 < b → b - a % b < a % b + a / b % 2 → a / b + 1 ≤ a
 up-fits a b p h = omega (arith, div-add-mod' a b, mod-lt a p, mul-le-mul-left (a / b) p)
 
--- near by the sum with one half, as the code does it where that fits
-pub evened-is : (h b : ℕ) → h % b + b % 2 ≡ 0 → evened h b ≡ h / b - h / b % 2
-unfolding evened
-evened-is h b e = rw (eq-eqb (h % b + b % 2) 0 e)
+-- near by one half added first, as the code does it: h is the sum, or what a loss leaves of it. What is left of the half
+-- alone makes no whole.
+module _ (a loss b h : ℕ) (p : 0 < b) (e : h ≡ a + b / 2 - loss) where
+  -- the whole part, where that is no half
+  pub near-part : (h % b + b % 2 ≡ 0 → ⊥) → near (a - loss) b ≡ h / b
+  near-part n =
+      let parts = div-add-mod' h b in
+      near-is (a - loss) b (h / b) p (off-tie (omega (arith, parts, e, n)) (omega (arith, parts, e, mod-lt h p)))
 
-pub evened-not : (h b : ℕ) → (h % b + b % 2 ≡ 0 → ⊥) → evened h b ≡ h / b
-unfolding evened
-evened-not h b n = rw (ne-eqb (h % b + b % 2) 0 n)
-
-half-added : (a b : ℕ) → 0 < b → Rounded a b (evened (a + b / 2) b)
-half-added a b p =
-    let h = a + b / 2 in
-    let parts = div-add-mod' h b in
-    elim (ℕ-discrete (h % b + b % 2) 0) [
-      | yes e ↦ rw (evened-is h b e) (tie-rounded (h / b) p (omega (arith, parts, e)))
-      | no n ↦ rw (evened-not h b n) (off-tie (omega (arith, parts, n)) (omega (arith, parts, mod-lt h p)))
-    ]
-
-pub near-halved : (a b : ℕ) → 0 < b → near a b ≡ evened (a + b / 2) b
-near-halved a b p = near-is a b (evened (a + b / 2) b) p (half-added a b p)
-
--- and of a difference, with the half added before the loss is taken: what is left of the half alone makes no whole
-pub near-left : (a loss b : ℕ) → 0 < b → near (a - loss) b ≡ evened (a + b / 2 - loss) b
-near-left a loss b p =
-    elim (decLe loss a) [
-      | yes h ↦ near-halved (a - loss) b p ∙ ap (λ n. evened n b) (omega (arith, h))
-      | no g ↦
+  -- and at a half the even one of it and the one below
+  pub near-even : h % b + b % 2 ≡ 0 → near (a - loss) b ≡ h / b - h / b % 2
+  near-even z = by-loss (decLe loss a)
+    where
+      by-loss : Dec (loss ≤ a) → near (a - loss) b ≡ h / b - h / b % 2
+      by-loss (yes l) = near-is (a - loss) b (h / b - h / b % 2) p (tie-rounded (h / b) p (omega (arith, div-add-mod' h b, e, z, l)))
+      by-loss (no g) =
           let less = lt-of-not-le g in
-          let none : (a + b / 2 - loss) / b ≡ 0 = div-eq-zero (a + b / 2 - loss) (omega (arith, less)) in
-          ap (λ n. near n b) (omega (arith, less)) ∙ near-whole 0 p ∙ sym (rest none)
-    ]
-  where
-    div-eq-zero : (n : ℕ) → n < b → n / b ≡ 0
-    div-eq-zero n l = div-eq-of-lt-le {k = 0} b {m = n} (omega arith) (omega arith)
-
-    rest : (a + b / 2 - loss) / b ≡ 0 → evened (a + b / 2 - loss) b ≡ 0
-    rest z =
-        elim (ℕ-discrete ((a + b / 2 - loss) % b + b % 2) 0) [
-          | yes e ↦ evened-is (a + b / 2 - loss) b e ∙ omega (arith, z)
-          | no n ↦ evened-not (a + b / 2 - loss) b n ∙ z
-        ]
+          let none : h / b ≡ 0 = div-eq-of-lt-le {k = 0} b {m = h} (omega arith) (omega (arith, e, less)) in
+          ap (λ n. near n b) (omega (arith, less)) ∙ near-whole 0 p ∙ omega (arith, none)

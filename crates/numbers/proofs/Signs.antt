@@ -1,10 +1,10 @@
 -- A number of either sign as the machine holds it, and its two parts as the code takes them.
 -- Assumes nothing.
-use Prim.Native.Nat.{ℕ, _<_}
+use Prim.Native.Nat.{ℕ, _+_, _*_, _<_}
 use mathlib.Core.Path.{_≡_, refl, sym, _∙_, ap, subst}
-use mathlib.Core.Bool.{true, false, true≢false}
+use mathlib.Core.Bool.{true, false, true≢false, cond}
 use native.Mathlib.Omega.{arith}
-use borrow.Author.Tests.{ltb-true, ltb-false}
+use borrow.Author.Tests.{ltb-true, ltb-false, le-ltb}
 use lib.Dec.{T}
 use lib.IntN.{ℤ, pos, negsuc, natAbs, _-ℤ_}
 use lib.Signed.{mag, ltZ, nonNeg}
@@ -34,6 +34,23 @@ not-above (negsuc n) e = refl
 pub not-below : (z : ℤ) → ltZ z (pos 0) ≡ false → 0 ≡ down z
 not-below (pos n) e = refl
 not-below (negsuc n) e = absurd (true≢false e)
+
+-- both parts together, where the number is below zero and where it is not
+pub size-below : (z : ℤ) → ltZ z (pos 0) ≡ true → down z ≡ up z + down z
+size-below (pos n) e = absurd (omega (arith, ltb-true n 0 e))
+size-below (negsuc n) e = omega arith
+
+pub size-not-below : (z : ℤ) → ltZ z (pos 0) ≡ false → up z ≡ up z + down z
+size-not-below z e = omega (arith, not-below z e)
+
+-- and each part times q, from the size and the sign
+pub up-by-sign : (z : ℤ) (q : ℕ) → cond (ltZ z (pos 0)) 0 ((up z + down z) * q) ≡ up z * q
+up-by-sign (pos n) q = rw (le-ltb n 0 (omega arith)) (omega arith)
+up-by-sign (negsuc n) q = omega arith
+
+pub down-by-sign : (z : ℤ) (q : ℕ) → cond (ltZ z (pos 0)) ((up z + down z) * q) 0 ≡ down z * q
+down-by-sign (pos n) q = rw (le-ltb n 0 (omega arith)) (omega arith)
+down-by-sign (negsuc n) q = omega arith
 
 -- a field of a struct
 pub field : (s : ℤ) → mag s < 2147483648 → toZ w32 (ofZ w32 s) ≡ s

@@ -5,4 +5,3 @@ pub mod Arithmetic
 pub mod Scan
 pub mod Lists
 pub mod Order
-pub mod Private
