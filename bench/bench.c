@@ -23,7 +23,7 @@ static const struct job {
     const char *name;
     enum call call;
     enum input input;
-    uint32_t first, p, q; // method, p and q; or N and g; or L; or D and p
+    uint32_t first, p, q; // method, p and q; or N and g; or L, N and g; or D and p
     int32_t s;
     uint32_t passes;
 } jobs[] = {
@@ -49,6 +49,7 @@ static const struct job {
     {"recession, L 5", RECESSION, GAPS, 5, 0, 0, 0, 0},
     {"recession, all lengths", RECESSION, LENGTHS, 2, 0, 0, 0, 0},
     {"recession, 18,000 limbs", RECESSION, TWOS, 2, 0, 0, 0, 0},
+    {"recession, from the line", RECESSION, GAPS, 2, 5, 9000, 0, 0},
     {"bfimax, D 365", BFIMAX, FLOWS, 365, 9700, 0, 0, 0},
     {"bfimax, D 3650 or all", BFIMAX, FLOWS, 3650, 9700, 0, 0, 0},
 };
@@ -115,11 +116,28 @@ static uint32_t two_day_flow(uint32_t t)
     return t % 2 == 0 ? 1000 + below(1000) : 100 + below(800);
 }
 
+// Base flow that a call reads: for ratios that of the line with N and g, or with N 0 the flow of every day; for totals
+// that of a filter.
+static void give_base(const struct job *job)
+{
+    uint32_t refusal = 0;
+    if (job->call != RECESSION)
+        refusal = reference_filter(1, 9250, 0, 0, 1, days, count, given_base, count);
+    else if (job->p != 0)
+        refusal = reference_line(job->p, job->q, days, count, given_base, count);
+    else
+        for (uint32_t t = 0; t < count; t++)
+            given_base[t] = days[t] == BASEFLOW_MISSING ? BASEFLOW_NO_VALUE : 1000 * (uint64_t)days[t];
+    if (refusal != 0)
+        abort();
+}
+
 // A river of storms and recessions (or one whose line comes late, one that is dry for a third of each year, or one of
-// limbs of chosen lengths), its record, and base flow for the totals.
-static void prepare(enum input input, uint32_t size)
+// limbs of chosen lengths), its record, and the base flow that is given.
+static void prepare(const struct job *job, uint32_t size)
 {
     static uint32_t laid[MOST];
+    const enum input input = job->input;
     uint32_t flow = 900;
     state = 1900;
     count = size;
@@ -147,8 +165,7 @@ static void prepare(enum input input, uint32_t size)
             put(BASEFLOW_MISSING_DAYS, 1, 2);
     }
     put(BASEFLOW_END, size, 4);
-    if (reference_filter(1, 9250, 0, 0, 1, days, size, given_base, size) != 0)
-        abort();
+    give_base(job);
 }
 
 // ---- a call
@@ -184,8 +201,8 @@ static uintptr_t stack_before;
                                          &(r)->large[1], &(r)->large[2], &(r)->small[1]);                              \
             break;                                                                                                     \
         case RECESSION:                                                                                                \
-            (r)->answer = prefix##recession((job)->first, days, count, (r)->limbs, count, &(r)->small[0],              \
-                                            &(r)->small[1]);                                                           \
+            (r)->answer = prefix##recession((job)->first, days, count, given_base, count, (r)->limbs, count,           \
+                                            &(r)->small[0], &(r)->small[1]);                                           \
             break;                                                                                                     \
         default:                                                                                                       \
             (r)->answer = prefix##bfimax(count - 1, (job)->first < count ? (job)->first : count, (job)->p, days,       \
@@ -243,7 +260,7 @@ static double median(double *values)
 static void compare(const struct job *job, uint32_t size, double *engine, double *reference)
 {
     double engine_runs[RUNS], reference_runs[RUNS];
-    prepare(job->input, size);
+    prepare(job, size);
     memset(&engine_result, 0, sizeof engine_result);
     memset(&reference_result, 0, sizeof reference_result);
     double once = measure(run_engine, job, 1) + measure(run_reference, job, 1);

@@ -36,7 +36,7 @@
  *   - No allocation, no input or output, no exit, no panic. Of the C library only memset is needed. No floating point,
  *     but vector registers may be used, as by any code for x86-64.
  *   - Every call ends, after a time that grows linearly with the lengths that it is given.
- *   - Stack, as bench/run measures it: baseflow_recession keeps two arrays of counters and needs 111 KiB, all others
+ *   - Stack, as bench/run measures it: baseflow_recession keeps three arrays of counters and needs 147 KiB, all others
  *     stay below 640 bytes.
  */
 #ifndef BASEFLOW_H
@@ -165,17 +165,24 @@ uint32_t baseflow_totals(const uint32_t *days, size_t days_len, const uint64_t *
 
 /*
  * Recession ratios: the flow of a day in ten-thousandths of that of the day before, over all falling limbs of at least
- * `limb_days` days (2 to 60), and their median.
+ * `limb_days` days (2 to 60), and their median. Only days at base belong to limbs, those whose base value is 1000 *
+ * their flow: groundwater alone feeds the river there. Any other day ends a limb.
  *
- * Refuses: 18, 9, 10, 19, 22.
+ * Refuses: 18, 9, 14, 10, 20, 19, 22.
  * On 0: *ratio_count is the number of ratios, *ratio the one in the middle (of two, the lower), 0 to 10,000. From its
  * start `limbs` gets two numbers per counted limb, the place of its first day and its number of days: limbs with more
  * days stand before those with fewer, and those with the same number of days in the order of their first days. The rest
  * of the list is left as it was. As many numbers as there are days are always enough.
- * A ratio of 0 or 10,000 is no parameter of a filter.
+ * Lend a base list exactly as long as the day list. A ratio of 0 or 10,000 is no parameter of a filter.
+ *
+ * From a record to p of method 5, the answers aside (examples/recession_record.c is the whole program):
+ *   baseflow_read(bytes, bytes_len, days, BASEFLOW_MOST_DAYS, &first_day, &n);
+ *   baseflow_line(5, 9000, days, n, base, n);
+ *   baseflow_recession(5, days, n, base, n, limbs, n, &ratio_count, &p);
+ *   baseflow_filter(BASEFLOW_ECKHARDT, p, 8000, 0, 1, days, n, base, n);
  */
-uint32_t baseflow_recession(uint32_t limb_days, const uint32_t *days, size_t days_len, uint32_t *limbs,
-                            size_t limbs_len, uint32_t *ratio_count, uint32_t *ratio);
+uint32_t baseflow_recession(uint32_t limb_days, const uint32_t *days, size_t days_len, const uint64_t *base,
+                            size_t base_len, uint32_t *limbs, size_t limbs_len, uint32_t *ratio_count, uint32_t *ratio);
 
 /*
  * BFImax from the river itself: the q of method 5 (BASEFLOW_ECKHARDT), by a filter that runs backwards over the

@@ -188,9 +188,23 @@
     X(RECESSION_18_LOW, "recession", "refused 18, L low")                                                              \
     X(RECESSION_18_HIGH, "recession", "refused 18, L high")                                                            \
     X(RECESSION_9, "recession", "refused 9")                                                                           \
+    X(RECESSION_9_LENGTHS, "recession", "refused 9, where 14 holds too")                                               \
+    X(RECESSION_14_SHORT, "recession", "refused 14, base short")                                                       \
+    X(RECESSION_14_LONG, "recession", "refused 14, base long")                                                         \
+    X(RECESSION_14_BY_ONE, "recession", "refused 14, base short or long by one")                                       \
+    X(RECESSION_14_DAY, "recession", "refused 14, where 10 holds too")                                                 \
     X(RECESSION_10, "recession", "refused 10")                                                                         \
+    X(RECESSION_10_VALUE, "recession", "refused 10, where 20 holds too")                                               \
+    X(RECESSION_20_MISSING, "recession", "refused 20, on a missing day")                                               \
+    X(RECESSION_20_MARK, "recession", "refused 20, 1000 x the mark on a missing day")                                  \
+    X(RECESSION_20_ABOVE, "recession", "refused 20, above the flow")                                                   \
+    X(RECESSION_20_NEXT, "recession", "refused 20, 1000 x flow + 1")                                                   \
+    X(RECESSION_20_NO_LIMB, "recession", "refused 20, where 19 holds too")                                             \
+    X(RECESSION_20_LIST, "recession", "refused 20, where 22 holds too")                                                \
     X(RECESSION_19_NO_LIMB, "recession", "refused 19, no limb")                                                        \
     X(RECESSION_19_SHORT, "recession", "refused 19, short limbs only")                                                 \
+    X(RECESSION_19_NONE, "recession", "refused 19, no day at base")                                                    \
+    X(RECESSION_19_FALL, "recession", "refused 19, a fall of L days not at base")                                      \
     X(RECESSION_22_NONE, "recession", "refused 22, empty list")                                                        \
     X(RECESSION_22_BY_ONE, "recession", "refused 22, short by one")                                                    \
     X(RECESSION_ODD, "recession", "accepted, odd k")                                                                   \
@@ -211,6 +225,13 @@
     X(RECESSION_EXACT, "recession", "accepted, a limb of L days")                                                      \
     X(RECESSION_PASSED, "recession", "accepted, a shorter limb passed over")                                           \
     X(RECESSION_GAP, "recession", "accepted, a fall through a gap")                                                    \
+    X(RECESSION_ALL, "recession", "accepted, every day at base")                                                       \
+    X(RECESSION_ENDS_LOW, "recession", "accepted, a day below its flow ends a limb")                                   \
+    X(RECESSION_ENDS_NONE, "recession", "accepted, a day without value ends a limb")                                   \
+    X(RECESSION_ENDS_DRY, "recession", "accepted, a dry day without value ends a limb")                                \
+    X(RECESSION_DRY, "recession", "accepted, a limb up to a dry day at base")                                          \
+    X(RECESSION_GOES_ON, "recession", "accepted, a fall through a day not at base")                                    \
+    X(RECESSION_BEGINS, "recession", "accepted, a limb behind a day not at base")                                      \
     X(RECESSION_RATIO_0, "recession", "accepted, ratio 0")                                                             \
     X(RECESSION_RATIO_MOST, "recession", "accepted, ratio 10,000")                                                     \
     X(RECESSION_HALF_BELOW, "recession", "accepted, the median at a half, even below")                                 \
@@ -714,6 +735,16 @@ static void count_line(const struct test_case *c, uint32_t answer, const uint64_
 
 // ---- totals
 
+// The place of the first value that 20 refuses; base_len where there is none.
+static size_t bad_value(const struct test_case *c)
+{
+    size_t t = 0;
+    while (t < c->base_len &&
+           (c->base[t] == NO_VALUE || (c->days[t] != MISSING && c->base[t] <= 1000 * (uint64_t)c->days[t])))
+        t++;
+    return t;
+}
+
 static void count_totals(const struct test_case *c, uint32_t answer, const struct outs *outs)
 {
     size_t t = 0;
@@ -728,8 +759,7 @@ static void count_totals(const struct test_case *c, uint32_t answer, const struc
         hit(TOTALS_10);
         break;
     case 20:
-        while (c->base[t] == NO_VALUE || (c->days[t] != MISSING && c->base[t] <= 1000 * (uint64_t)c->days[t]))
-            t++;
+        t = bad_value(c);
         hit(c->days[t] == MISSING ? TOTALS_20_MISSING : TOTALS_20_ABOVE);
         hit_if(c->days[t] != MISSING && c->base[t] == 1000 * (uint64_t)c->days[t] + 1, TOTALS_20_NEXT);
         break;
@@ -769,19 +799,47 @@ static void view_length(struct limb_view *view, size_t length, size_t before)
     view->long_rises += before > 255 && length > before;
 }
 
+static int at_base(const struct test_case *c, size_t t)
+{
+    return t < c->base_len && c->days[t] != MISSING && c->base[t] == 1000 * (uint64_t)c->days[t];
+}
+
+// The place behind the limb that begins at `start`; the next one where none does.
+static size_t end_of_limb(const struct test_case *c, size_t start)
+{
+    size_t end = start + 1;
+    while (at_base(c, start) && end < c->days_len && c->days[end] < c->days[end - 1] && at_base(c, end))
+        end++;
+    return end;
+}
+
+// Notes what is before and behind a counted limb.
+static void view_ends(struct limb_view *view, const struct test_case *c, size_t start, size_t end)
+{
+    view->dry += c->days[end - 1] == 0;
+    view->begins += start > 0 && c->days[start - 1] != MISSING && c->days[start - 1] > c->days[start];
+    if (end >= c->days_len || end >= c->base_len || c->days[end] >= c->days[end - 1])
+        return;
+    view->ends_low += c->base[end] != NO_VALUE;
+    view->ends_none += c->base[end] == NO_VALUE;
+    view->ends_dry += c->days[end] == 0;
+    view->goes_on += end + 1 < c->days_len && c->days[end + 1] < c->days[end] && at_base(c, end + 1);
+}
+
 struct limb_view view_limbs(const struct test_case *c)
 {
     struct limb_view view = {0};
     size_t before = 0;
     for (size_t start = 0, end; start < c->days_len; start = end) {
-        for (end = start + 1; end < c->days_len && c->days[end] < c->days[end - 1] && c->days[start] != MISSING;)
-            end++;
+        end = end_of_limb(c, start);
         size_t length = end - start;
+        view.at_base += at_base(c, start) ? length : 0;
         if (length < 2)
             continue;
         if (length >= c->limb_days) {
             view.counted++;
             view_length(&view, length, before);
+            view_ends(&view, c, start, end);
             before = length;
         }
         view.exact += length == c->limb_days;
@@ -796,8 +854,7 @@ static int halves_of_ratio(const struct test_case *c, uint32_t ratio)
 {
     int met = 0;
     for (size_t start = 0, end; start < c->days_len; start = end) {
-        for (end = start + 1; end < c->days_len && c->days[end] < c->days[end - 1] && c->days[start] != MISSING;)
-            end++;
+        end = end_of_limb(c, start);
         for (size_t t = start + 1; t < end && end - start >= c->limb_days; t++) {
             int half = half_at(10000 * (uint64_t)c->days[t], c->days[t - 1]);
             uint64_t below = 10000 * (uint64_t)c->days[t] / c->days[t - 1];
@@ -807,10 +864,30 @@ static int halves_of_ratio(const struct test_case *c, uint32_t ratio)
     return met;
 }
 
+static int any_bad_day(const struct test_case *c)
+{
+    for (size_t t = 0; t < c->days_len; t++)
+        if (c->days[t] > MOST_FLOW && c->days[t] != MISSING)
+            return 1;
+    return 0;
+}
+
+// Whether L days that are one beside the other fall, at base or not.
+static int any_fall(const struct test_case *c)
+{
+    size_t fallen = 0, most = 0; // present days up to this one, each with less flow than the one before
+    for (size_t t = 0; t < c->days_len; t++) {
+        fallen = c->days[t] == MISSING ? 0 : fallen > 0 && c->days[t] < c->days[t - 1] ? fallen + 1 : 1;
+        most = fallen > most ? fallen : most;
+    }
+    return most >= c->limb_days;
+}
+
 static void count_recession(const struct test_case *c, uint32_t answer, const struct outs *outs)
 {
     struct limb_view view = {0};
-    if (answer == 0 || answer == 19 || answer == 22)
+    size_t t = 0;
+    if (answer == 0 || answer == 19 || answer == 20 || answer == 22)
         view = view_limbs(c);
     switch (answer) {
     case 18:
@@ -818,12 +895,29 @@ static void count_recession(const struct test_case *c, uint32_t answer, const st
         break;
     case 9:
         hit(RECESSION_9);
+        hit_if(c->base_len != c->days_len, RECESSION_9_LENGTHS);
+        break;
+    case 14:
+        hit(c->base_len < c->days_len ? RECESSION_14_SHORT : RECESSION_14_LONG);
+        hit_if(c->base_len + 1 == c->days_len || c->days_len + 1 == c->base_len, RECESSION_14_BY_ONE);
+        hit_if(any_bad_day(c), RECESSION_14_DAY);
         break;
     case 10:
         hit(RECESSION_10);
+        hit_if(bad_value(c) < c->base_len, RECESSION_10_VALUE);
+        break;
+    case 20:
+        t = bad_value(c);
+        hit(c->days[t] == MISSING ? RECESSION_20_MISSING : RECESSION_20_ABOVE);
+        hit_if(c->days[t] == MISSING && c->base[t] == 1000 * (uint64_t)MISSING, RECESSION_20_MARK);
+        hit_if(c->days[t] != MISSING && c->base[t] == 1000 * (uint64_t)c->days[t] + 1, RECESSION_20_NEXT);
+        hit_if(view.counted == 0, RECESSION_20_NO_LIMB);
+        hit_if(c->limbs_len < 2 * view.counted, RECESSION_20_LIST);
         break;
     case 19:
         hit(view.shorter == 0 ? RECESSION_19_NO_LIMB : RECESSION_19_SHORT);
+        hit_if(view.at_base == 0 && c->days_len > 0, RECESSION_19_NONE);
+        hit_if(any_fall(c), RECESSION_19_FALL);
         break;
     case 22:
         hit_if(c->limbs_len == 0, RECESSION_22_NONE);
@@ -847,6 +941,13 @@ static void count_recession(const struct test_case *c, uint32_t answer, const st
         hit_if(view.exact > 0, RECESSION_EXACT);
         hit_if(view.shorter > 0, RECESSION_PASSED);
         hit_if(view.at_gap > 0, RECESSION_GAP);
+        hit_if(view.at_base == c->days_len, RECESSION_ALL);
+        hit_if(view.ends_low > 0, RECESSION_ENDS_LOW);
+        hit_if(view.ends_none > 0, RECESSION_ENDS_NONE);
+        hit_if(view.ends_dry > 0, RECESSION_ENDS_DRY);
+        hit_if(view.dry > 0, RECESSION_DRY);
+        hit_if(view.goes_on > 0, RECESSION_GOES_ON);
+        hit_if(view.begins > 0, RECESSION_BEGINS);
         hit_if(outs->small[1] == 0, RECESSION_RATIO_0);
         hit_if(outs->small[1] == 10000, RECESSION_RATIO_MOST);
         hit_halves(halves_of_ratio(c, outs->small[1]), RECESSION_HALF_BELOW);

@@ -83,8 +83,8 @@ static int may_write(enum call call, enum list list)
             return prefix##totals(lists[DAYS], c->days_len, lists[BASE], c->base_len, &small[0], &large[0], &large[1], \
                                   &large[2], &small[1]);                                                               \
         case RECESSION:                                                                                                \
-            return prefix##recession(c->limb_days, lists[DAYS], c->days_len, lists[LIMBS], c->limbs_len, &small[0],    \
-                                     &small[1]);                                                                       \
+            return prefix##recession(c->limb_days, lists[DAYS], c->days_len, lists[BASE], c->base_len, lists[LIMBS],   \
+                                     c->limbs_len, &small[0], &small[1]);                                              \
         case BFIMAX:                                                                                                   \
             return prefix##bfimax(c->last_day, c->duration, c->p, lists[DAYS], c->days_len, lists[BASE], c->base_len,  \
                                   &small[0]);                                                                          \
@@ -268,16 +268,26 @@ static int cut_pieces(enum list list, int with_base)
     return better;
 }
 
+// For the ratios, a base value goes down with the flow of its day, as far as it can.
+static void lower_value(size_t t)
+{
+    uint64_t by = 1000 * (uint64_t)(smallest.days[t] - attempt.days[t]);
+    if (attempt.call == RECESSION && t < attempt.base_len && attempt.base[t] != NO_VALUE)
+        attempt.base[t] -= attempt.base[t] < by ? attempt.base[t] : by;
+}
+
 static int lower_days(void)
 {
     int better = 0;
     for (size_t t = 0; t < smallest.days_len && smallest.call != READ && effort_left > 0; t++) {
         const uint32_t day = smallest.days[t], lower[] = {0, 1, 10, 100, day / 10 * 10, day / 2, day - 1};
         for (size_t i = 0; i < sizeof lower / sizeof *lower && day != MISSING; i++) {
+            if (lower[i] >= smallest.days[t])
+                continue;
             copy(&attempt, &smallest);
             attempt.days[t] = lower[i];
-            if (lower[i] < smallest.days[t] && keep())
-                better = 1;
+            lower_value(t);
+            better |= keep();
         }
     }
     return better;

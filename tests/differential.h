@@ -44,6 +44,10 @@ struct limb_view {
     size_t counted, exact, shorter, at_gap;
     size_t lengths, twice;          // different lengths of counted limbs, and those that exactly two of them have
     size_t most, rises, long_rises; // the most days of one; one longer than the one before, and both over 255 days
+    size_t at_base, dry;            // days at base, and counted limbs whose last day is dry
+    // Counted limbs that a day not at base cuts off from a longer fall: behind the limb a day below its flow, one
+    // without a value, a dry one, or one from which the fall goes on to a day at base; and a day before the limb.
+    size_t ends_low, ends_none, ends_dry, goes_on, begins;
 };
 struct limb_view view_limbs(const struct test_case *c);
 

@@ -245,8 +245,13 @@ def measure_bfimax(engine, last, duration, p, days, shares):
 
 # document 01, "Rivers worked through": rule 8.1
 def worked_rivers(engine):
+    def ratios(limb_days, days):
+        """With every day at base."""
+        return engine.recession(limb_days, days, rules.whole_flows(days))
+
     line = [None, 8000, 8333, 8667, 9000, None]
     flows = [10, 8, 10, 20, 9, 30]
+    falling = [100, 90, 81, 72]
     dry_block = [12, 11, 10, 13, 14] + [0] * 5 + [15, 10, 12, 11, 13, 9, 8, 8, 9, 10, 10, 12, 13, 14, 15]
     return [
         ("method 1", engine.filter(1, 9250, 0, 0, 1, [100, 200]), [50000, 57500]),
@@ -275,10 +280,16 @@ def worked_rivers(engine):
         ("no flow", engine.line(1, 9000, [0] * 5), [None, 0, 0, 0, None]),
         ("no flow, no totals", refused(engine.totals, [0] * 5, [None, 0, 0, 0, None])[0], 21),
         ("two dry blocks alone", refused(engine.line, 1, 9000, [0, 0])[0], 17),
-        ("L 3", engine.recession(3, [100, 90, 81]), (2, 9000, [(0, 3)])),
-        ("L 4", refused(engine.recession, 4, [100, 90, 81])[0], 19),
-        ("the longest limb first", engine.recession(2, [9, 8, 9, 8, 7, 9, 8]), (4, 8889, [(2, 3), (0, 2), (5, 2)])),
-        ("lower middle", engine.recession(3, [100, 50, 40]), (2, 5000, [(0, 3)])),
+        ("L 3", ratios(3, [100, 90, 81]), (2, 9000, [(0, 3)])),
+        ("L 4", refused(ratios, 4, [100, 90, 81])[0], 19),
+        ("the longest limb first", ratios(2, [9, 8, 9, 8, 7, 9, 8]), (4, 8889, [(2, 3), (0, 2), (5, 2)])),
+        ("lower middle", ratios(3, [100, 50, 40]), (2, 5000, [(0, 3)])),
+        ("a limb up to a day below its flow", engine.recession(2, falling, [100000, 90000, 80999, 72000]),
+         (1, 9000, [(0, 2)])),
+        ("a limb up to a day without a value", engine.recession(2, falling, [100000, 90000, None, 72000]),
+         (1, 9000, [(0, 2)])),
+        ("a limb behind a day without a value", engine.recession(2, falling, [100000, None, 81000, 72000]),
+         (1, 8889, [(2, 2)])),
         ("BFImax, held to the flow in the middle", engine.bfimax(4, 5, 9000, [30, 12, 10, 20, 9]),
          (6476, [12346, 11111, 10000, 10000, 9000])),
         ("BFImax, never held to the flow", engine.bfimax(4, 4, 9500, [7, 100, 80, 50, 30, None]),
@@ -290,7 +301,7 @@ def worked_rivers(engine):
         ("line, halves", engine.line(16, 9000, [30] * 16 + [20] + [30] * 15 + [21] + [30] * 31)[16:21],
          [20000, 20062, 20125, 20188, 20250]),
         ("index at a half", [engine.totals([20], [base])[4] for base in (1, 3)], [0, 2]),
-        ("a ratio at a half", [engine.recession(2, [32, flow])[1] for flow in (1, 3)], [312, 938]),
+        ("a ratio at a half", [ratios(2, [32, flow])[1] for flow in (1, 3)], [312, 938]),
         ("BFImax, a half", engine.bfimax(1, 2, 6400, [2, 1]), (8540, [1562, 1000])),
         ("BFImax, a half above an odd number", engine.bfimax(1, 2, 6400, [5, 3]), (9610, [4688, 3000])),
         ("BFImax, the answer at a half", [engine.bfimax(1, 2, 5000, flows)[0] for flows in ([31, 1], [29, 3])],

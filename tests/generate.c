@@ -1,6 +1,7 @@
 // The generator of the differential runs. It aims at the edges of document 01: limits and their neighbours, marks,
-// ties, quotients at a half, falls through gaps, dry spells, limbs of chosen lengths, recessions as BFImax sees them,
-// full lists, lists of different lengths, and records damaged by cutting, flipping and inserting.
+// ties, quotients at a half, falls through gaps, dry spells, limbs of chosen lengths, falls that are not at base
+// everywhere, recessions as BFImax sees them, full lists, lists of different lengths, and records damaged by cutting,
+// flipping and inserting.
 #include <string.h>
 
 #include "differential.h"
@@ -298,6 +299,22 @@ static void halve_index(struct test_case *c)
     }
 }
 
+// A value that 20 refuses: one on a missing day, or one above the flow of its day. Now and then it is the flow itself.
+static void spoil_value(struct test_case *c)
+{
+    size_t count = c->days_len < c->base_len ? c->days_len : c->base_len;
+    if (count == 0 || !spoil())
+        return;
+    size_t t = below((uint32_t)count);
+    for (size_t left = one_in(2) ? count : 0; left > 0 && c->days[t] != MISSING; left--)
+        t = (t + 1) % count;
+    uint64_t whole = 1000 * (uint64_t)c->days[t];
+    if (c->days[t] == MISSING)
+        c->base[t] = AMONG_OF(uint64_t, 0, 1, 1000, whole, whole, whole + 1, NO_VALUE - 1);
+    else
+        c->base[t] = AMONG_OF(uint64_t, whole + 1, whole + 1, whole + 1000, whole + 4294967296, NO_VALUE - 1, whole);
+}
+
 static void make_totals(struct test_case *c)
 {
     fill_days(c);
@@ -319,11 +336,7 @@ static void make_totals(struct test_case *c)
         memset(c->base, 0xff, c->base_len * sizeof *c->base);
     if (one_in(8))
         halve_index(c);
-    if (c->base_len > 0 && spoil()) {
-        size_t t = below((uint32_t)c->base_len);
-        uint64_t whole = t < c->days_len && c->days[t] != MISSING ? 1000 * (uint64_t)c->days[t] : 0;
-        c->base[t] = one_in(2) ? whole + 1 : one_in(2) ? whole : NO_VALUE - 1;
-    }
+    spoil_value(c);
 }
 
 // Limbs of two days, the second with an odd number of 32nds of the first: every ratio lies at a half.
@@ -334,6 +347,61 @@ static void fill_halved_limbs(struct test_case *c)
     for (size_t t = 0; t < c->days_len; t++)
         c->days[t] = part * (t % 2 == 0 ? 32 : 1 + 2 * below(16));
     spoil_day(c);
+}
+
+// Which days are not at base: one of a fall, some, every second to seventh, the first days of falls, their last days,
+// or all. Or the base flow is that of a filter or a line.
+enum { ONE_OF_A_FALL, SOME_DAYS, REGULAR_DAYS, FIRST_DAYS, LAST_DAYS, ALL_DAYS, FILTERED, LINED, PATTERNS };
+
+// Whether the flow falls from day t - 1 to day t.
+static int falls(const struct test_case *c, size_t t)
+{
+    return 0 < t && t < c->days_len && c->days[t - 1] != MISSING && c->days[t] < c->days[t - 1];
+}
+
+// A day that is not at base: no value, one below its flow, anything below it, or its flow without the highest bits.
+static void take_off_base(struct test_case *c, size_t t, uint32_t way)
+{
+    uint64_t whole = 1000 * (uint64_t)c->days[t];
+    c->base[t] = way == 0 || whole == 0 || c->days[t] == MISSING ? NO_VALUE
+                 : way == 1                                      ? whole - 1
+                 : whole > UINT32_MAX && one_in(4)               ? (uint32_t)whole
+                                                                 : ((draw() >> 32) * whole >> 32);
+}
+
+static void take_days_off_base(struct test_case *c, size_t count, uint32_t pattern)
+{
+    uint32_t way = below(4), apart = between(2, 7), share = between(1, 3), turn = below(apart);
+    size_t place = below((uint32_t)count);
+    for (size_t left = count; left > 0 && !falls(c, place) && !falls(c, place + 1); left--)
+        place = (place + 1) % count;
+    for (size_t t = 0; t < count; t++) {
+        int off = pattern == ONE_OF_A_FALL  ? t == place
+                  : pattern == SOME_DAYS    ? one_in(apart)
+                  : pattern == REGULAR_DAYS ? t % apart == turn
+                  : pattern == FIRST_DAYS   ? !falls(c, t) && falls(c, t + 1) && one_in(share)
+                  : pattern == LAST_DAYS    ? falls(c, t) && !falls(c, t + 1) && one_in(share)
+                                            : 1;
+        if (off)
+            take_off_base(c, t, way < 3 ? way : below(3));
+    }
+}
+
+// Base flow for the ratios: every day at base, or not all of them.
+static void fill_given_base(struct test_case *c)
+{
+    fill_base(c);
+    size_t count = c->days_len < c->base_len ? c->days_len : c->base_len;
+    for (size_t t = 0; t < count; t++)
+        c->base[t] = c->days[t] == MISSING ? NO_VALUE : 1000 * (uint64_t)c->days[t];
+    uint32_t pattern = one_in(2) ? PATTERNS : below(PATTERNS);
+    if (pattern == FILTERED)
+        (void)reference_filter(AMONG(1, 3, 6), between(1, 9999), 0, 0, 1, c->days, c->days_len, c->base, c->base_len);
+    else if (pattern == LINED)
+        (void)reference_line(between(1, 5), AMONG(9000, 9999, 5000, 1), c->days, c->days_len, c->base, c->base_len);
+    else if (pattern < PATTERNS && count > 0)
+        take_days_off_base(c, count, pattern);
+    spoil_value(c);
 }
 
 static void make_recession(struct test_case *c)
@@ -351,6 +419,7 @@ static void make_recession(struct test_case *c)
         fill_limbs(c);
     else
         fill_days(c);
+    fill_given_base(c);
     size_t enough = 2 * view_limbs(c).counted;
     c->limbs_len = one_in(3) ? enough : one_in(2) ? enough + below(4) : one_in(2) ? below(40) : c->days_len;
     if (spoil() && enough > 0)

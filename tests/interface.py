@@ -97,17 +97,16 @@ class Engine:
         """Days with a value, flow total, base total, quick total and index."""
         m, index = ctypes.c_uint32(), ctypes.c_uint32()
         flow, slow, quick = ctypes.c_uint64(), ctypes.c_uint64(), ctypes.c_uint64()
-        self.call("totals", day_list(days), size(days),
-                  listed(ctypes.c_uint64, [NO_VALUE if value is None else value for value in base]), size(base),
+        self.call("totals", day_list(days), size(days), base_list(base), size(base),
                   *map(ctypes.byref, (m, flow, slow, quick, index)))
         return m.value, flow.value, slow.value, quick.value, index.value
 
-    def recession(self, limb_days, days):
+    def recession(self, limb_days, days, base):
         """The number of ratios, the middle one, and the counted limbs as they are listed."""
         limbs = listed(ctypes.c_uint32, [0] * len(days))
         count, ratio = ctypes.c_uint32(), ctypes.c_uint32()
-        self.call("recession", ctypes.c_uint32(limb_days), day_list(days), size(days), limbs, size(days),
-                  ctypes.byref(count), ctypes.byref(ratio))
+        self.call("recession", ctypes.c_uint32(limb_days), day_list(days), size(days), base_list(base), size(base),
+                  limbs, size(days), ctypes.byref(count), ctypes.byref(ratio))
         return count.value, ratio.value, [pair for pair in zip(limbs[::2], limbs[1::2]) if pair != (0, 0)]
 
     def bfimax(self, last_day, duration, p, days):
@@ -128,6 +127,10 @@ def size(values):
 
 def day_list(days):
     return listed(ctypes.c_uint32, [MISSING if day is None else day for day in days])
+
+
+def base_list(base):
+    return listed(ctypes.c_uint64, [NO_VALUE if value is None else value for value in base])
 
 
 def base_values(base, days):

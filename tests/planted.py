@@ -5,7 +5,7 @@ matches any of the file's.
 """
 import re
 
-TIE = "(rest + (below & 1) > b - rest)"
+TIE = "if (with_half % b < (whole & 1)) whole -= (b & 1) == 0;"
 DAYS_TEST = "if (!are_days(days, days_len)) return 10;"
 LENGTHS_TEST = "if (base_len != days_len) return 14;"
 COUNT_TEST = "if (four_bytes(body) != count) return 7;"
@@ -22,16 +22,34 @@ BY_DAY_COUNT = ("if (left->day_count != right->day_count) "
 BY_FIRST_DAY = "(left->first_day > right->first_day) - (left->first_day < right->first_day)"
 SORT = "qsort(found, limb_count, sizeof *found, by_list_order);"
 LIMBS_TEST = "if (limbs_len < 2 * limb_count)"
+LIMB_DAYS_TEST = "if (!within(limb_days, 2, 60)) return 18;"
+MOST_DAYS_TEST = "if (days_len > MOST_DAYS) return 9;"
+COUNTS = "uint32_t counts[MOST_RATIO + 1] = {0};"
+NO_VALUE_TEST = "if (base[start] == NO_VALUE) continue;"
+WHOLE = "uint64_t whole = 1000 * (uint64_t)days[start];"
+VALUE_TEST = "if (days[start] == MISSING || base[start] > whole) return 20;"
+START_TEST = "if (base[start] < whole) continue;"
+FALL = "while (end < days_len && days[end] < days[end - 1] && base[end] == 1000 * (uint64_t)days[end]) end++;"
+NOT_REFUSED = "(base[end] == NO_VALUE || base[end] <= 1000 * (uint64_t)days[end])"
 MEDIAN = "uint32_t place = 0, below = counts[0];"
 SPELL_TEST = "if (!are_present(days, days_len, last_day, duration)) return 24;"
 NO_FLOW_TEST = "if (Y == 0) return 21; for"
 BACKWARDS = "value = smaller(1000 * (uint64_t)days[t], near(10000 * value, p));"
 
+
+def at_base_if(test):
+    """Finds limbs by another test of the days at base."""
+    first, later = (test.replace("value", f"base[{at}]").replace("flow", f"(uint64_t)days[{at}]")
+                    for at in ("start", "end"))
+    return f"if (!({first})) continue; while (end < days_len && days[end] < days[end - 1] && {later}) end++;"
+
+
 FAULTS = (
-    ("halves go up", TIE, "(2 * rest >= b)"),
-    ("halves go down", TIE, "(2 * rest > b)"),
-    ("halves go to the odd number", TIE, "(rest + (~below & 1) > b - rest)"),
-    ("a half goes by whether the remainder is odd", TIE, "(rest + (rest & 1) > b - rest)"),
+    ("halves go up", TIE, ""),
+    ("halves go down", TIE, "if (with_half % b == 0) whole -= (b & 1) == 0;"),
+    ("halves go to the odd number", TIE, "if (with_half % b < (~whole & 1)) whole -= (b & 1) == 0;"),
+    ("a half goes by whether the remainder is odd", TIE, "if (with_half % b < (a % b & 1)) whole -= (b & 1) == 0;"),
+    ("a half is found where b is odd, too", TIE, "if (with_half % b < (whole & 1)) whole -= 1;"),
     ("a half goes up at the start of method 5", "near(9 * q * flow, 100)", "(9 * q * flow + 50) / 100"),
     ("a half goes up where s is below zero", "near((uint64_t)sum, w->d)", "((uint64_t)sum + w->d / 2) / w->d"),
     ("a half goes up in pass 2 or 3", "f = next(w, f, u, u_before);",
@@ -95,7 +113,43 @@ FAULTS = (
     ("a value too many is written", "while (done < days_len)", "while (done <= days_len)"),
     ("the index is cut off", "near(10 * T, Y)", "(10 * T / Y)"),
     ("base equal to flow is refused", "|| base[t] > 1000", "|| base[t] >= 1000"),
-    ("equal days fall", "days[at] < days[at - 1]", "days[at] <= days[at - 1]"),
+    ("equal days fall", "days[end] < days[end - 1]", "days[end] <= days[end - 1]"),
+    ("limbs are found without the base list", f"{NO_VALUE_TEST} {WHOLE} {VALUE_TEST} {START_TEST} {FALL}",
+     f"{WHOLE} if (base[start] != NO_VALUE) {VALUE_TEST} if (days[start] == MISSING) continue; "
+     f"while (end < days_len && days[end] < days[end - 1] && {NOT_REFUSED}) end++;"),
+    ("a day with a base value is at base", f"{START_TEST} {FALL}", at_base_if("value <= 1000 * flow")),
+    ("base is rounded to litres and then compared", f"{START_TEST} {FALL}",
+     at_base_if("value <= 1000 * flow && near(value, 1000) == flow")),
+    ("the lowest 32 bits of base are compared", f"{START_TEST} {FALL}",
+     at_base_if("value <= 1000 * flow && (uint32_t)value == (uint32_t)(1000 * flow)")),
+    ("a dry day is not at base", f"{START_TEST} {FALL}", at_base_if("flow > 0 && value == 1000 * flow")),
+    ("a limb begins on a day below its flow", START_TEST, ""),
+    ("a limb ends on a day below its flow", FALL,
+     f"{FALL} if (end < days_len && days[end] < days[end - 1] && base[end] < 1000 * (uint64_t)days[end]) end++;"),
+    ("a limb ends on a day without a value", FALL,
+     f"{FALL} if (end < days_len && days[end] < days[end - 1] && base[end] == NO_VALUE) end++;"),
+    ("a day not at base is bridged", FALL,
+     "while (end < days_len && days[end] < days[end - 1] && (base[end] == 1000 * (uint64_t)days[end] || "
+     f"({NOT_REFUSED} && end + 1 < days_len && days[end + 1] < days[end] && "
+     "base[end + 1] == 1000 * (uint64_t)days[end + 1]))) end++;"),
+    ("a missing day's mark counts as a flow", VALUE_TEST, "if (base[start] > whole) return 20;"),
+    ("a value on a missing day is passed over", VALUE_TEST, f"if (days[start] == MISSING) continue; {VALUE_TEST}"),
+    ("a value above the flow is passed over", VALUE_TEST, "if (days[start] == MISSING) return 20;"),
+    ("14 before 9", f"{LIMB_DAYS_TEST} {MOST_DAYS_TEST} {LENGTHS_TEST}",
+     f"{LIMB_DAYS_TEST} {LENGTHS_TEST} {MOST_DAYS_TEST}"),
+    ("20 before 10", f"{DAYS_TEST} {COUNTS}",
+     "for (size_t t = 0; t < days_len; t++) if (base[t] != NO_VALUE && (days[t] == MISSING || "
+     f"base[t] > 1000 * (uint64_t)days[t])) return 20; {DAYS_TEST} {COUNTS}"),
+    ("19 before 20", COUNTS,
+     "size_t fallen = 0, most = 0; for (size_t t = 0; t < days_len; t++) { "
+     "if (days[t] == MISSING || base[t] != 1000 * (uint64_t)days[t]) fallen = 0; "
+     "else fallen = fallen > 0 && days[t] < days[t - 1] ? fallen + 1 : 1; "
+     f"most = fallen > most ? fallen : most; }} if (most < limb_days) return 19; {COUNTS}"),
+    ("22 before 20", VALUE_TEST,
+     "if (days[start] == MISSING || base[start] > whole) return limbs_len < 2 * limb_count ? 22 : 20;"),
+    ("a longer base list is taken", f"{LIMB_DAYS_TEST} {MOST_DAYS_TEST} {LENGTHS_TEST}",
+     f"{LIMB_DAYS_TEST} {MOST_DAYS_TEST} if (base_len < days_len) return 14;"),
+    ("the base list of the ratios is written", START_TEST, f"{START_TEST} ((uint64_t *)base)[start] = NO_VALUE;"),
     ("the upper of two middle ratios", "(k + 1) / 2", "(k / 2 + 1)"),
     ("a limb's number of days is one short", "*limbs++ = found[i].day_count;", "*limbs++ = found[i].day_count - 1;"),
     ("the shortest limb first", "left->day_count > right->day_count ? -1 : 1",

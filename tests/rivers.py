@@ -28,6 +28,14 @@ def marks(values):
     return [NO_VALUE if v is None else v for v in values]
 
 
+def base_views(base):
+    return [None if b == NO_VALUE else b for b in base]
+
+
+def whole_flows(days):
+    return marks(rules.whole_flows(views(days)))
+
+
 def bad_days(days):
     return Refusal(10) if any(rules.MOST_FLOW < d < MISSING for d in days) else None
 
@@ -54,10 +62,8 @@ def line_call(block_days, factor, days, base):
 
 
 def totals_call(days, base):
-    cause = bad_lists(days, base)
-    if not cause and any(b != NO_VALUE and (d == MISSING or b > 1000 * d) for d, b in zip(days, base)):
-        cause = Refusal(20)
-    return cause or rules.totals(views(days), [None if b == NO_VALUE else b for b in base])
+    cause = bad_lists(days, base) or rules.bad_base(views(days), base_views(base))
+    return cause or rules.totals(views(days), base_views(base))
 
 
 def bfimax_call(last_day, duration, p, days, base):
@@ -69,13 +75,13 @@ def bfimax_call(last_day, duration, p, days, base):
     return (found,)
 
 
-def ratios_call(limb_days, days, limbs):
+def ratios_call(limb_days, days, base, limbs):
     if not 2 <= limb_days <= 60:
         return Refusal(18)
-    cause = Refusal(9) if len(days) > rules.MOST_DAYS else bad_days(days)
+    cause = bad_lists(days, base) or rules.bad_base(views(days), base_views(base))
     if cause:
         return cause
-    counted = rules.counted_limbs(limb_days, views(days))
+    counted = rules.counted_limbs(limb_days, views(days), base_views(base))
     found = rules.ratios(counted)
     if not found:
         return Refusal(19)
@@ -171,8 +177,8 @@ def show_totals(days, base):
     return result
 
 
-def show_ratios(limb_days, days, limbs):
-    result = ratios_call(limb_days, days, limbs)
+def show_ratios(limb_days, days, base, limbs):
+    result = ratios_call(limb_days, days, base, limbs)
     out.append(words('ratios', limb_days) + answer(result, 'found') + words(', limbs', check_sum(limbs)))
     return result
 
@@ -210,8 +216,12 @@ def thirty_years(seed, gaps):
     for setting in ((1, 9000), (5, 9000), (5, 9999), (7, 1), (30, 9500)):
         show_line(*setting, days, base)
         show_totals(days, base)
+    base = whole_flows(days)
     for limb_days in (2, 5, 10, 60):
-        show_ratios(limb_days, days, [0] * 8192)
+        show_ratios(limb_days, days, base, [0] * 8192)
+    show_line(5, 9000, days, base)
+    for limb_days in (2, 5, 10, 60):
+        show_ratios(limb_days, days, base, [0] * 8192)
     for spell in ((10_956, 60, 9800), (5000, 3650, 9500), (29, 30, 9999)):
         show_bfimax(*spell, days, base)
 
@@ -227,6 +237,7 @@ def full_record():
     show_totals(days, base)
     show_line(5, 9000, days, base)
     show_totals(days, base)
+    show_ratios(2, days, base, [0] * 8192)
     show_bfimax(36_524, 3650, 9780, days, base)
 
 
@@ -243,21 +254,27 @@ def refusals():
     for setting in ((31, 9000), (5, 10_000)):
         show_line(*setting, days, base)
     for limb_days in (1, 61):
-        show_ratios(limb_days, days, limbs)
+        show_ratios(limb_days, days, base, limbs)
     days, base = [100, 10_000_001], [7, 7]
     show_filter(1, 9250, 0, 0, 1, [1] * 36526, base)
     show_filter(1, 9250, 0, 0, 1, days, [7])
     show_filter(1, 9250, 0, 0, 1, days, base)
     show_line(5, 9000, days, base)
     show_totals(days, base)
+    show_ratios(2, [1] * 36526, base, limbs)
+    show_ratios(2, days, [7], limbs)
+    show_ratios(2, days, base, limbs)
     show_step(5, 5001, 0, 0, 10_000_001)
     show_step(5, 5001, 1, 0, 10_000_001)
     show_step(5, 5001, 1, 9250, 10_000_001)
     show_step(5, 5000, 1, 9250, 10_000_001)
     days, base, limbs = [0, 100, 90, 81], [NO_VALUE] * 4, [7]
     show_line(1, 9000, days, base)
-    show_ratios(4, days, limbs)
-    show_ratios(3, days, limbs)
+    show_ratios(2, days, base, limbs)
+    at_base = [0, 100_000, 90_000, 81_000]
+    show_ratios(4, days, at_base, limbs)
+    show_ratios(3, days, at_base, limbs)
+    show_ratios(2, days, [0, 0, 90_001, 0], limbs)
     show_totals(days, base)
     show_totals(days, [0, 0, 90_001, 0])
     days, base = [100, 0, 0, MISSING], [7] * 4
@@ -270,7 +287,8 @@ def refusals():
 
 def published():
     for constant in (9730, 9800, 9500, 9770, 9780, 9160, 9450, 8990):
-        assert show_ratios(5, fall(20, constant), [0, 0]) == (19, constant)
+        days = fall(20, constant)
+        assert show_ratios(5, days, whole_flows(days), [0, 0]) == (19, constant)
     days, base = steady(10957, 1_000_000, 0, 0), [0] * 10957
     for method, p, q, known in ((5, 9780, 8000, 8000), (5, 9780, 5000, 5000), (5, 9780, 2500, 2500), (1, 9000, 0, 10000),
                                 (1, 9250, 0, 10000), (1, 9500, 0, 10000)):

@@ -170,6 +170,12 @@ def no_line(block_days, factor, days):
 
 
 # "Totals and index": 5.1, 5.2
+def bad_base(days, base):
+    """20 for a value on a missing day or above the flow of its day, or None."""
+    bad = any(b is not None and (y is None or b > 1000 * y) for y, b in zip(days, base))
+    return Refusal(20) if bad else None
+
+
 def totals(days, base):
     """m, Y, T, quick total and index of days and base values that pass their checks."""
     counted = [(y, b) for y, b in zip(days, base) if b is not None]
@@ -178,11 +184,21 @@ def totals(days, base):
 
 
 # "Recession ratios": 6.1 to 6.6
-def counted_limbs(limb_days, days):
+def whole_flows(days):
+    """A base list with every present day at base."""
+    return [None if y is None else 1000 * y for y in days]
+
+
+def at_base(days, base):
+    """The days at base; any other day is None."""
+    return [y if y is not None and b == 1000 * y else None for y, b in zip(days, base, strict=True)]
+
+
+def counted_limbs(limb_days, days, base):
     """The first place and the flows of each limb that counts, in the order of the limb list: one with more days before
     any with fewer, and of two with the same number of days the one that begins earlier."""
     counted = []
-    for start, flows in stretches(days):
+    for start, flows in stretches(at_base(days, base)):
         first = 0
         for t in range(1, len(flows) + 1):
             if t == len(flows) or flows[t] >= flows[t - 1]:

@@ -138,21 +138,22 @@ pub extern "C" fn baseflow_bfimax(
     }
 }
 
-// Recession ratios of a day list, with every counted limb listed, the longest first.
+// Recession ratios of the days at base, with every counted limb listed, the longest first.
 #[no_mangle]
 pub extern "C" fn baseflow_recession(
     limb_days: u32,
     days: &[u32],
+    base: &[u64],
     limbs: &mut [u32],
     ratio_count: &mut u32,
     ratio: &mut u32,
 ) -> u32
-    ensures { λ r. ⌜ r ≡ returned (ratioOutcome «limb_days» (now (days .entry)) (now (limbs .entry))) ⌝ }
-    ensures { λ _. ⌜ now (limbs .exit) ≡ ratioLeaves «limb_days» (now (days .entry)) (now (limbs .entry)) ⌝ }
-    ensures { λ _. ⌜ now («ratio_count» .exit) ≡ handedOut (λ s. s .count) (ratioOutcome «limb_days» (now (days .entry)) (now (limbs .entry))) (now («ratio_count» .entry)) ⌝ }
-    ensures { λ _. ⌜ now (ratio .exit) ≡ handedOut (λ s. s .median) (ratioOutcome «limb_days» (now (days .entry)) (now (limbs .entry))) (now (ratio .entry)) ⌝ }
+    ensures { λ r. ⌜ r ≡ returned (ratioOutcome «limb_days» (now (days .entry)) (now (base .entry)) (now (limbs .entry))) ⌝ }
+    ensures { λ _. ⌜ now (limbs .exit) ≡ ratioLeaves «limb_days» (now (days .entry)) (now (base .entry)) (now (limbs .entry)) ⌝ }
+    ensures { λ _. ⌜ now («ratio_count» .exit) ≡ handedOut (λ s. s .count) (ratioOutcome «limb_days» (now (days .entry)) (now (base .entry)) (now (limbs .entry))) (now («ratio_count» .entry)) ⌝ }
+    ensures { λ _. ⌜ now (ratio .exit) ≡ handedOut (λ s. s .median) (ratioOutcome «limb_days» (now (days .entry)) (now (base .entry)) (now (limbs .entry))) (now (ratio .entry)) ⌝ }
 {
-    let answer = recession::ratios(limb_days, days, limbs);
+    let answer = recession::ratios(limb_days, days, base, limbs);
     match answer {
         recession::Answer::Refused(refusal) => refusal.number(),
         recession::Answer::Ratios { count, median } => {

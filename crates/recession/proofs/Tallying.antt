@@ -3,12 +3,13 @@
 use Prim.Native.Nat.{ℕ, suc, _+_, _-_, _≤_, _<_, _^_, max}
 use mathlib.Core.Path.{_≡_, refl, sym, _∙_, ap}
 use mathlib.Core.List.{List, [], _∷_}
+use native.Mathlib.Decide.{ℕ-discrete}
 use native.Mathlib.Omega.{arith}
-use lib.ListN.{length, getD, set, length-append, length-set}
-use lib.Seq.{getD-set-other}
+use lib.ListN.{length, getD, drop, set, length-append, length-set}
+use lib.Seq.{drop-drop, getD-set-same, getD-set-other}
 use Rattle.recession.specs.Limbs.{Limb}
 use Rattle.recession.specs.Ratios.{pairRatios, limbRatios}
-use Rattle.recession.specs.Private.{howMany, Added, Tallied, dayCounts, Measured}
+use Rattle.recession.specs.Private.{limbsFrom, invalidFrom, LimbAt, howMany, Added, Tallied, dayCounts, Measured, Noted}
 use Rattle.recession.proofs.Counting.{many-append, many-few, many-here, counted-one}
 use Rattle.recession.proofs.Selection.{pairs-length}
 
@@ -56,6 +57,26 @@ tallying-done t e =
       ratios = omega (arith, t .ratios-left, ap (λ ls. length (limbRatios ls)) e);
       added = record { size = t .size; each = λ v. omega (arith, t .each v, ap (λ ls. howMany v (limbRatios ls)) e) };
     }
+
+-- where each tallied limb starts: a search from there finds it and the later ones
+pub record Noting (L : ℕ) (days base : List ℕ) (left : List Limb) (limbs : ℕ) (firsts : List ℕ) : Type 0 where
+  pub noted : Noted L days base limbs firsts
+  pub behind : drop limbs (limbsFrom L days base 0) ≡ left
+
+pub noting-start : {L : ℕ} {days base firsts : List ℕ} → length firsts ≡ 18263 → Noting L days base (limbsFrom L days base 0) 0 firsts
+noting-start e = record { noted = record { size = e; each = λ i h. absurd (omega arith) }; behind = refl }
+
+pub next-behind : (ls : List Limb) (n : ℕ) {l : Limb} {next : List Limb} → drop n ls ≡ l ∷ next → drop (n + 1) ls ≡ next
+next-behind ls n e = sym (drop-drop 1 n ls) ∙ ap (drop 1) e
+
+pub noting-next : {L : ℕ} {days base : List ℕ} {from first end limbs : ℕ} {firsts : List ℕ} → Noting L days base (limbsFrom L days base from) limbs firsts → LimbAt L days base from first end → invalidFrom days base 0 ≡ invalidFrom days base from → limbs < 18263
+    → Noting L days base (limbsFrom L days base end) (limbs + 1) (set firsts limbs first)
+noting-next {L} {days} {base} {first = first} {limbs = limbs} {firsts} n l t h =
+    record { noted = record { size = length-set firsts limbs first ∙ n .noted .size; each = λ i g. by-place i g (ℕ-discrete i limbs) }; behind = next-behind (limbsFrom L days base 0) limbs (n .behind ∙ l .next) }
+  where
+    by-place : (i : ℕ) → i < limbs + 1 → Dec (i ≡ limbs) → let p = getD (set firsts limbs first) i 0 in (p < length days) × (limbsFrom L days base p ≡ drop i (limbsFrom L days base 0)) × (invalidFrom days base p ≡ invalidFrom days base 0)
+    by-place i g (yes q) = rw (q, getD-set-same firsts limbs first 0 (omega (arith, n .noted .size))) (omega (arith, l .forward, l .inside), sym (n .behind ∙ l .reached .same), sym (t ∙ l .reached .tests))
+    by-place i g (no q) = rw (getD-set-other firsts limbs i first 0 q) (n .noted .each i (omega (arith, q)))
 
 -- the limbs by their numbers of days
 pub counts-length : (ls : List Limb) → length (dayCounts ls) ≡ length ls

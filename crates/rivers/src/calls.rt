@@ -88,9 +88,9 @@ pub fn bfimax(last_day: u32, duration: u32, p: u32, days: &[u32], base: &mut [u6
     show::base_list(base);
 }
 
-pub fn ratios(limb_days: u32, days: &[u32], limbs: &mut [u32]) {
+pub fn ratios(limb_days: u32, days: &[u32], base: &[u64], limbs: &mut [u32]) {
     show::named(b"ratios", limb_days as u64);
-    let answer = recession::ratios(limb_days, days, limbs);
+    let answer = recession::ratios(limb_days, days, base, limbs);
     match answer {
         recession::Answer::Refused(refusal) => show::refusal(refusal),
         recession::Answer::Ratios { count, median } => {

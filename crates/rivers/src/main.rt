@@ -45,16 +45,24 @@ fn lines(days: &[u32], base: &mut [u64]) {
     calls::line_and_totals(30, 9500, days, base);
 }
 
-fn limbs(limb_days: u32, days: &[u32]) {
+fn limbs(limb_days: u32, days: &[u32], base: &[u64]) {
     let mut limbs = [0u32; 8192];
-    calls::ratios(limb_days, days, &mut limbs);
+    calls::ratios(limb_days, days, base, &mut limbs);
 }
 
-fn all_limbs(days: &[u32]) {
-    limbs(2, days);
-    limbs(5, days);
-    limbs(10, days);
-    limbs(60, days);
+fn all_limbs(days: &[u32], base: &[u64]) {
+    limbs(2, days, base);
+    limbs(5, days, base);
+    limbs(10, days, base);
+    limbs(60, days, base);
+}
+
+// Ratios with every day at base, and from the days on which a line meets the flow.
+fn limbs_at_base(days: &[u32], base: &mut [u64]) {
+    river::at_base(days, base);
+    all_limbs(days, base);
+    calls::line(5, 9000, days, base);
+    all_limbs(days, base);
 }
 
 // Spells at the end of thirty years, in their middle and at their start.
@@ -74,7 +82,7 @@ fn thirty_years(seed: u32, gaps: u32) {
     all_methods(&days, &mut base);
     all_steps(&days);
     lines(&days, &mut base);
-    all_limbs(&days);
+    limbs_at_base(&days, &mut base);
     spells(&days, &mut base);
 }
 
@@ -95,6 +103,7 @@ fn full_record() {
     read_back(&mut bytes, &mut days);
     calls::filter_and_totals(calls::plain(1, 9250, 0), 3, &days, &mut base);
     calls::line_and_totals(5, 9000, &days, &mut base);
+    limbs(2, &days, &base);
     calls::bfimax(36_524, 3650, 9780, &days, &mut base);
 }
 

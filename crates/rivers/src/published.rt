@@ -3,12 +3,14 @@
 use crate::calls;
 use crate::river;
 
-// Twenty days of a fall; limbs of at least five days count.
+// Twenty days of a fall, all of it base flow; limbs of at least five days count.
 fn fall_by(constant: u32) {
     let mut days = [0u32; 20];
+    let mut base = [0u64; 20];
     let mut limbs = [0u32; 2];
     river::fall(&mut days, 10_000_000, constant, 0, 0);
-    calls::ratios(5, &days, &mut limbs);
+    river::at_base(&days, &mut base);
+    calls::ratios(5, &days, &base, &mut limbs);
 }
 
 // Source document 000: 0.973 to 0.980 and 0.95 in the Chesapeake Bay watershed, 0.977 of the worked stream, 0.978 for 45

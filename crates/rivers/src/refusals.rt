@@ -38,8 +38,8 @@ pub fn of_settings() {
     calls::filter(calls::plain(2, 3334, 0), 1, &days, &mut base);
     calls::line(31, 9000, &days, &mut base);
     calls::line(5, 10_000, &days, &mut base);
-    calls::ratios(1, &days, &mut limbs);
-    calls::ratios(61, &days, &mut limbs);
+    calls::ratios(1, &days, &base, &mut limbs);
+    calls::ratios(61, &days, &base, &mut limbs);
 }
 
 // 9, 14, 10.
@@ -48,11 +48,15 @@ pub fn of_lists() {
     let days = [100u32, 10_000_001];
     let mut base = [7u64; 2];
     let mut short = [7u64; 1];
+    let mut limbs = [7u32; 2];
     calls::filter(calls::plain(1, 9250, 0), 1, &long, &mut base);
     calls::filter(calls::plain(1, 9250, 0), 1, &days, &mut short);
     calls::filter(calls::plain(1, 9250, 0), 1, &days, &mut base);
     calls::line(5, 9000, &days, &mut base);
     calls::totals(&days, &base);
+    calls::ratios(2, &long, &base, &mut limbs);
+    calls::ratios(2, &days, &short, &mut limbs);
+    calls::ratios(2, &days, &base, &mut limbs);
 }
 
 fn step_after(flow: u32, base: u64, method: u32, p: u32, day: u32) {
@@ -76,8 +80,11 @@ pub fn of_values() {
     let mut base = [series::NO_VALUE; 4];
     let mut limbs = [7u32; 1];
     calls::line(1, 9000, &days, &mut base);
-    calls::ratios(4, &days, &mut limbs);
-    calls::ratios(3, &days, &mut limbs);
+    let at_base = [0u64, 100_000, 90_000, 81_000];
+    calls::ratios(2, &days, &base, &mut limbs);
+    calls::ratios(4, &days, &at_base, &mut limbs);
+    calls::ratios(3, &days, &at_base, &mut limbs);
+    calls::ratios(2, &days, &[0, 0, 90_001, 0], &mut limbs);
     calls::totals(&days, &base);
     calls::totals(&days, &[0, 0, 90_001, 0]);
 }

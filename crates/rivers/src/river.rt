@@ -111,3 +111,27 @@ pub fn fall(days: &mut [u32], from: u32, constant: u32, apart: usize, storm: u32
         i += 1;
     }
 }
+
+// A day's base value where all of its flow is base flow.
+fn all_base(day: u32) -> u64 {
+    if day == series::MISSING {
+        return series::NO_VALUE;
+    }
+    1000 * (day as u64)
+}
+
+fn day_at(days: &[u32], i: usize) -> u32 {
+    if i < days.len() {
+        return days[i];
+    }
+    series::MISSING
+}
+
+// Fills a base list with that on each day.
+pub fn at_base(days: &[u32], base: &mut [u64]) {
+    let mut i = 0;
+    while i < base.len() {
+        base[i] = all_base(day_at(days, i));
+        i += 1;
+    }
+}

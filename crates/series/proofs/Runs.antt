@@ -99,18 +99,19 @@ module _ {A : Type 0} (joins : A → A → Bool) where
   further-only before (some y ∷ ds) (x ∷ xs) n j e =
       rw (j 0 (omega arith)) (ap₂ (λ a l. a ∷ l) (sym (Option·some-injective y x (head-eq-of-cons-eq n))) (further-only (some y) ds xs (tail-eq-of-cons-eq n) (λ t h. j (suc t) (omega arith)) e))
 
-  -- each element of a run joins the one before
-  pub run-joins : {days : List (Option A)} {start : ℕ} {run : List A} → Longest joins days start run → (d : A) (t : ℕ) → suc t < length run → joins (getD run t d) (getD run (suc t) d) ≡ true
-  unfolding joinsAt
-  run-joins {days} {start} {run} l d t h = sym (joined-days (getD run t d) (getD run (suc t) d)) ∙ ap₂ (joined joins) (sym (day-at t (omega arith))) (sym (day-at (suc t) h)) ∙ ap (λ k. joined joins (getD days (start + t) none) (getD days k none)) (omega arith) ∙ l .together (suc (start + t)) (omega arith) (omega arith)
+  -- the days of a run, where they stand
+  pub run-day : {days : List (Option A)} {start : ℕ} {run : List A} → Longest joins days start run → (d : A) (t : ℕ) → t < length run → getD days (start + t) none ≡ some (getD run t d)
+  run-day {days} {start} {run} l d t h = sym (getD-drop start days t none) ∙ sym (getD-take (length run) (drop start days) t none h) ∙ ap (λ ds. getD ds t none) (l .neighbouring) ∙ some-at run t h
     where
       some-at : (xs : List A) (i : ℕ) → i < length xs → getD (map some xs) i none ≡ some (getD xs i d)
       some-at [] i g = absurd (omega arith)
       some-at (x ∷ xs) zero g = refl
       some-at (x ∷ xs) (suc i) g = some-at xs i (omega arith)
 
-      day-at : (i : ℕ) → i < length run → getD days (start + i) none ≡ some (getD run i d)
-      day-at i g = sym (getD-drop start days i none) ∙ sym (getD-take (length run) (drop start days) i none g) ∙ ap (λ ds. getD ds i none) (l .neighbouring) ∙ some-at run i g
+  -- each element of a run joins the one before
+  pub run-joins : {days : List (Option A)} {start : ℕ} {run : List A} → Longest joins days start run → (d : A) (t : ℕ) → suc t < length run → joins (getD run t d) (getD run (suc t) d) ≡ true
+  unfolding joinsAt
+  run-joins {days} {start} {run} l d t h = sym (joined-days (getD run t d) (getD run (suc t) d)) ∙ ap₂ (joined joins) (sym (run-day l d t (omega arith))) (sym (run-day l d (suc t) h)) ∙ ap (λ k. joined joins (getD days (start + t) none) (getD days k none)) (omega arith) ∙ l .together (suc (start + t)) (omega arith) (omega arith)
 
   -- a run seen with one day more before it
   later-by-one : {d : Option A} {ds : List (Option A)} {k : ℕ} {run : List A} → Longest joins ds (suc k) run → Longest joins (d ∷ ds) (suc (suc k)) run

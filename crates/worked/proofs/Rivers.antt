@@ -1,7 +1,7 @@
 -- The rivers that document 01 works through and marks ◆, in one list, with one result over all of it; the checker computes
 -- them.
 -- Assumes nothing.
-use Prim.Native.Nat.{ℕ}
+use Prim.Native.Nat.{ℕ, _*_}
 use mathlib.Core.Path.{_≡_, refl}
 use mathlib.Core.Bool.{Bool, true, false, not, _&&_}
 use mathlib.Core.List.{List, [], _∷_, _++_, map}
@@ -13,7 +13,7 @@ use lib.ListN.{replicate}
 use Rattle.numbers.specs.Near.{near}
 use Rattle.numbers.specs.Fraction.{Fraction, whole, sum, opposite, difference, surplus, multiple, quotient, least}
 use Rattle.numbers.specs.Arithmetic.{rounded, exact, weighted}
-use Rattle.series.specs.Units.{isInvalidDay, dayOf, baseOf, baseMark, within}
+use Rattle.series.specs.Units.{noValueMark, isInvalidDay, dayOf, baseOf, baseMark, within}
 use Rattle.series.specs.Segments.{parts, overSegments}
 use Rattle.series.specs.Causes.{firstCause, Outcome, accepted, refused}
 use Rattle.series.specs.Lists.{tooLong, lengthsDiffer, anyInvalidDay, isInvalidBase, anyInvalidBase}
@@ -34,7 +34,7 @@ use Rattle.totals.specs.Sums.{baseDays, flowTotal, baseTotal, index}
 use Rattle.totals.specs.declared.Totals.{Totals}
 use Rattle.totals.specs.Call.{noFlow, totalsCauses, totalsOutcome}
 use Rattle.series.specs.Runs.{joined, further, runsFrom}
-use Rattle.recession.specs.Limbs.{limbDay, limbDays, hasAtLeast, limbs, counted}
+use Rattle.recession.specs.Limbs.{atBase, limbDay, limbDays, hasAtLeast, limbs, counted}
 use Rattle.recession.specs.Ratios.{pairRatios, limbRatios, median}
 use Rattle.recession.specs.Call.{noRatio, limbListTooShort, countedLimbs, countedRatios, ratioCauses, Statistics, ratioOutcome}
 
@@ -140,11 +140,11 @@ line-checks =
     ∷ turns 9000 10 10 10
     ∷ []
 
--- rivers that dry up: the line of blocks of n days at g 9000
-abbrev dryLine : (n : ℕ) → List ℕ → List (Option ℕ)
-dryLine n flows = lineOver rounded (blocksOf (record { «block_days» = n; factor = 9000 })) (map some flows)
+-- the line of blocks of n days at g 9000
+abbrev lineBy : (n : ℕ) → List ℕ → List (Option ℕ)
+lineBy n flows = lineOver rounded (blocksOf (record { «block_days» = n; factor = 9000 })) (map some flows)
 
--- five days of flow, five without, and fifteen of flow that dip to 8
+-- rivers that dry up: five days of flow, five without, and fifteen of flow that dip to 8
 abbrev dryBlock : List ℕ
 dryBlock =
     12 ∷ 11 ∷ 10 ∷ 13 ∷ 14 ∷ 0 ∷ 0 ∷ 0 ∷ 0 ∷ 0 ∷ 15 ∷ 10 ∷ 12 ∷ 11 ∷ 13 ∷ 9 ∷ 8 ∷ 8 ∷ 9 ∷ 10 ∷ 10 ∷ 12 ∷ 13 ∷ 14 ∷ 15 ∷ []
@@ -160,27 +160,42 @@ unfolding blockStart blockCount block lowest earliest minimumFlow minimumDay tur
 dry-checks =
     -- N 1, flows 5, 0, 0, 0, 5: each dry day turns, and the line is 0 on them
     same (map some (turningPoints (blocksOf line-setting) (5 ∷ 0 ∷ 0 ∷ 0 ∷ 5 ∷ []))) (some 1 ∷ some 2 ∷ some 3 ∷ [])
-    ∷ same (dryLine 1 (5 ∷ 0 ∷ 0 ∷ 0 ∷ 5 ∷ [])) (none ∷ some 0 ∷ some 0 ∷ some 0 ∷ none ∷ [])
+    ∷ same (lineBy 1 (5 ∷ 0 ∷ 0 ∷ 0 ∷ 5 ∷ [])) (none ∷ some 0 ∷ some 0 ∷ some 0 ∷ none ∷ [])
     -- N 1, flows 3, 0, 4, 6, 0, 5: from one dry day to the other
-    ∷ same (dryLine 1 (3 ∷ 0 ∷ 4 ∷ 6 ∷ 0 ∷ 5 ∷ [])) (none ∷ some 0 ∷ some 0 ∷ some 0 ∷ some 0 ∷ none ∷ [])
+    ∷ same (lineBy 1 (3 ∷ 0 ∷ 4 ∷ 6 ∷ 0 ∷ 5 ∷ [])) (none ∷ some 0 ∷ some 0 ∷ some 0 ∷ some 0 ∷ none ∷ [])
     -- N 5, a dry block between wet ones: from its first day up to the next turning point, and no higher than the flow
-    ∷ same (dryLine 5 dryBlock)
+    ∷ same (lineBy 5 dryBlock)
     (noValues 5
     ++ some 0 ∷ some 0 ∷ some 0 ∷ some 0 ∷ some 0 ∷ some 3636 ∷ some 4364 ∷ some 5091 ∷ some 5818 ∷ some 6545 ∷ some 7273 ∷ some 8000 ∷ noValues 8)
     -- no flow on any day: a line of 0, and no totals
-    ∷ same (dryLine 1 zeroDays) (none ∷ some 0 ∷ some 0 ∷ some 0 ∷ none ∷ [])
-    ∷ no-totals (totalsOutcome zeroDays (map baseMark (dryLine 1 zeroDays)))
+    ∷ same (lineBy 1 zeroDays) (none ∷ some 0 ∷ some 0 ∷ some 0 ∷ none ∷ [])
+    ∷ no-totals (totalsOutcome zeroDays (map baseMark (lineBy 1 zeroDays)))
     -- two dry blocks alone have none between two others: 17
     ∷ sameValue (firstCause (lineCauses line-setting (0 ∷ 0 ∷ []) (0 ∷ 0 ∷ []))) (some 17)
     ∷ []
 
+-- the ratios of flows with base 1000 × flow on each day, and room for two limbs
+abbrev atBaseRatios : (L : ℕ) → List ℕ → Outcome Statistics
+atBaseRatios L flows = ratioOutcome L flows (map (λ y. 1000 * y) flows) (0 ∷ 0 ∷ 0 ∷ 0 ∷ [])
+
+-- a river that groundwater alone feeds but for two storms, with a recession constant of 0.985
+abbrev storms : List ℕ
+storms =
+    394 ∷ 388 ∷ 590 ∷ 484 ∷ 429 ∷ 398 ∷ 380 ∷ 368 ∷ 360 ∷ 353 ∷ 347 ∷ 341 ∷ 336 ∷ 331 ∷ 326 ∷ 779 ∷ 757 ∷ 539 ∷ 428 ∷ 370 ∷ 339 ∷ 321 ∷ 310 ∷ 302 ∷ 296 ∷ 290 ∷ 286 ∷ 281 ∷ 277 ∷ 273 ∷ 268 ∷ 264 ∷ 260 ∷ 257 ∷ 253 ∷ []
+
 ratio-checks : List Bool
-unfolding ratioOutcome ratioCauses within tooLong anyInvalidDay isInvalidDay noRatio limbListTooShort countedLimbs countedRatios counted limbs runsFrom further joined selected hasAtLeast limbDays limbDay dayOf limbRatios pairRatios near median atRank rising insertRising
+unfolding ratioOutcome ratioCauses within tooLong lengthsDiffer anyInvalidDay isInvalidDay anyInvalidBase isInvalidBase noRatio limbListTooShort countedLimbs countedRatios counted limbs runsFrom further joined selected hasAtLeast limbDays limbDay atBase dayOf baseOf limbRatios pairRatios near median atRank rising insertRising blockStart blockCount block lowest earliest minimumFlow minimumDay turns middleTurns counting turningPoints neighbours straight betweenPoints lineOn line lineOver overSegments parts baseMark
 ratio-checks =
     -- flows 100, 90, 81 at L 3 and at L 4, and flows 100, 50, 40 at L 3
-    answers 2 9000 (ratioOutcome 3 (100 ∷ 90 ∷ 81 ∷ []) (0 ∷ 0 ∷ []))
-    ∷ refuses 19 (ratioOutcome 4 (100 ∷ 90 ∷ 81 ∷ []) (0 ∷ 0 ∷ []))
-    ∷ answers 2 5000 (ratioOutcome 3 (100 ∷ 50 ∷ 40 ∷ []) (0 ∷ 0 ∷ []))
+    answers 2 9000 (atBaseRatios 3 (100 ∷ 90 ∷ 81 ∷ []))
+    ∷ refuses 19 (atBaseRatios 4 (100 ∷ 90 ∷ 81 ∷ []))
+    ∷ answers 2 5000 (atBaseRatios 3 (100 ∷ 50 ∷ 40 ∷ []))
+    -- flows 100, 90, 81, 72, the third day one thousandth below its flow, or without a value: that day ends the limb
+    ∷ answers 1 9000 (ratioOutcome 2 (100 ∷ 90 ∷ 81 ∷ 72 ∷ []) (100000 ∷ 90000 ∷ 80999 ∷ 72000 ∷ []) (0 ∷ 0 ∷ []))
+    ∷ answers 1 9000 (ratioOutcome 2 (100 ∷ 90 ∷ 81 ∷ 72 ∷ []) (100000 ∷ 90000 ∷ noValueMark ∷ 72000 ∷ []) (0 ∷ 0 ∷ []))
+    -- two storms, with the line of N 5, g 9000: 10 ratios from its days at base, where all of its days give 32
+    ∷ answers 10 9849 (ratioOutcome 2 storms (map baseMark (lineBy 5 storms)) (0 ∷ 0 ∷ 0 ∷ 0 ∷ []))
+    ∷ answers 32 9801 (ratioOutcome 2 storms (map (λ y. 1000 * y) storms) (0 ∷ 0 ∷ 0 ∷ 0 ∷ 0 ∷ 0 ∷ []))
     ∷ []
 
 rivers : every (filter-checks ++ line-checks ++ dry-checks ++ ratio-checks) ≡ true

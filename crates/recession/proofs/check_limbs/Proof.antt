@@ -8,8 +8,9 @@ use Rattle.recession.proofs.check_limbs.Tie as tie
 
 returns : tie.Need-returns
 returns c =
+    decides-next refl (c .refuse-if3 .ensures) (let c = c .before .before in
     decides-next refl (c .refuse-if2 .ensures) (let c = c .before .before in
-    decides-next refl (c .refuse-if .ensures) decides-none)
+    decides-next refl (c .refuse-if .ensures) decides-none))
 
 pub check-limbs-spec : {M : Type 1} → statement M
-check-limbs-spec = tie.close (tie.spec (λ c κs. search needs) (λ c. search needs) (λ c κs. search needs) returns)
+check-limbs-spec = tie.close (tie.spec (λ c κs. search needs) (λ c κs. search needs) (λ c. search needs) (λ c κs. search needs) returns)
