@@ -17,13 +17,13 @@ enum { RUNS = 25, RUN_NANOSECONDS = 4000000, STACK = 1 << 18, PAINT = 0xc3, SIZE
 static const uint32_t sizes[SIZES] = {1000, 10000, MOST};
 
 enum input { FLOWS, GAPS, MIXED, LATE, SUMMERS, LENGTHS, TWOS };
-enum call { READ, FILTER, STEP, LINE, TOTALS, RECESSION, BFIMAX };
+enum call { READ, FILTER, STEP, LINE, TOTALS, RECESSION, BFIMAX, STAGGERED };
 
 static const struct job {
     const char *name;
     enum call call;
     enum input input;
-    uint32_t first, p, q; // method, p and q; or N and g; or L, N and g; or D and p
+    uint32_t first, p, q; // method, p and q; or N, g and choice; or L, N and g; or D and p
     int32_t s;
     uint32_t passes;
 } jobs[] = {
@@ -43,6 +43,10 @@ static const struct job {
     {"line, N 30, no gaps", LINE, FLOWS, 30, 9000, 0, 0, 0},
     {"line, N 5, at the end", LINE, LATE, 5, 9999, 0, 0, 0},
     {"line, N 5, dry summers", LINE, SUMMERS, 5, 9000, 0, 0, 0},
+    {"staggered, N 5, lowest", STAGGERED, GAPS, 5, 9000, 1, 0, 0},
+    {"staggered, N 5, highest", STAGGERED, GAPS, 5, 9000, 2, 0, 0},
+    {"staggered, N 5, median", STAGGERED, GAPS, 5, 9000, 3, 0, 0},
+    {"staggered, N 30, median", STAGGERED, FLOWS, 30, 9000, 3, 0, 0},
     {"totals, few gaps", TOTALS, GAPS, 0, 0, 0, 0, 0},
     {"totals, many gaps", TOTALS, MIXED, 0, 0, 0, 0, 0},
     {"recession, L 2", RECESSION, GAPS, 2, 0, 0, 0, 0},
@@ -65,7 +69,7 @@ static struct result {
     uint32_t answer, small[3];
     uint64_t large[3];
     uint32_t days[MOST], limbs[MOST];
-    uint64_t base[MOST];
+    uint64_t base[MOST], work[30 * MOST];
 } engine_result, reference_result;
 
 // ---- input
@@ -195,6 +199,10 @@ static uintptr_t stack_before;
             break;                                                                                                     \
         case LINE:                                                                                                     \
             (r)->answer = prefix##line((job)->first, (job)->p, days, count, (r)->base, count);                         \
+            break;                                                                                                     \
+        case STAGGERED:                                                                                                \
+            (r)->answer = prefix##staggered((job)->first, (job)->p, (job)->q, days, count, (r)->base, count,           \
+                                            (r)->work, (job)->first * count);                                          \
             break;                                                                                                     \
         case TOTALS:                                                                                                   \
             (r)->answer = prefix##totals(days, count, given_base, count, &(r)->small[0], &(r)->large[0],               \

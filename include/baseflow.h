@@ -37,7 +37,7 @@
  *     but vector registers may be used, as by any code for x86-64.
  *   - Every call ends, after a time that grows linearly with the lengths that it is given.
  *   - Stack, as bench/run measures it: baseflow_recession keeps three arrays of counters and needs 147 KiB, all others
- *     stay below 640 bytes.
+ *     stay below 1 KiB.
  */
 #ifndef BASEFLOW_H
 #define BASEFLOW_H
@@ -75,6 +75,11 @@ extern "C" {
 #define BASEFLOW_TULARAM_ILAHEE 6u     /* p 1 to 9999 */
 #define BASEFLOW_JAKEMAN_HORNBERGER 7u /* p 1 to 9999, q 1 to 10000, s -9999 to 9999 */
 
+/* choices among staggered lines */
+#define BASEFLOW_LOWEST 1u
+#define BASEFLOW_HIGHEST 2u
+#define BASEFLOW_MEDIAN 3u
+
 /* what a call returns */
 enum baseflow_answer {
     BASEFLOW_ACCEPTED = 0,
@@ -93,7 +98,7 @@ enum baseflow_answer {
     BASEFLOW_BAD_PASSES = 13,      /* passes that are not 1, 2 or 3, or are 2 or 3 in another method than 1 */
     BASEFLOW_LENGTHS_DIFFER = 14,  /* a base list that is not as long as the day list */
     BASEFLOW_BAD_STATE = 15,       /* a state whose flow is above 10,000,000, or whose base is above 1000 * that flow */
-    BASEFLOW_BAD_BLOCK = 16,       /* block length N or factor g out of range */
+    BASEFLOW_BAD_BLOCK = 16,       /* block length N, factor g or choice out of range */
     BASEFLOW_NO_LINE = 17,         /* no segment with two or more turning points */
     BASEFLOW_BAD_LIMB_DAYS = 18,   /* shortest limb L out of range */
     BASEFLOW_NO_RATIO = 19,        /* no ratio, since no limb counts */
@@ -101,7 +106,8 @@ enum baseflow_answer {
     BASEFLOW_NO_FLOW = 21,         /* a flow total Y of 0 */
     BASEFLOW_LIMBS_SHORT = 22,     /* a limb list without two numbers for each counted limb */
     BASEFLOW_BAD_DURATION = 23,    /* duration D out of range */
-    BASEFLOW_BAD_SPELL = 24        /* a last day outside the list, or a missing day or none on one of the D days */
+    BASEFLOW_BAD_SPELL = 24,       /* a last day outside the list, or a missing day or none on one of the D days */
+    BASEFLOW_BAD_WORK = 25         /* a work list that is not N times as long as the day list */
 };
 
 /*
@@ -150,6 +156,19 @@ uint32_t baseflow_step(uint32_t method, uint32_t p, uint32_t q, int32_t s, uint3
  */
 uint32_t baseflow_line(uint32_t block_days, uint32_t factor, const uint32_t *days, size_t days_len, uint64_t *base,
                        size_t base_len);
+
+/*
+ * Staggered lines: as baseflow_line, once for each shift o from 0 to block_days - 1, with blocks that begin o days into
+ * each stretch; so the result does not depend on where the first block happens to begin. On each day `choice` takes of
+ * the lines that have a value there BASEFLOW_LOWEST, BASEFLOW_HIGHEST or BASEFLOW_MEDIAN (of two in the middle the
+ * lower); a day on which none has one has no value.
+ *
+ * Refuses: 16, 9, 14, 25, 10, 17. 16 covers the choice, and 17 comes where no shift has a line.
+ * On 0: all of `base` is written, and `work` holds the lines one behind the other, that of shift o from o * days_len on.
+ * Lend a base list exactly as long as the day list, and a work list block_days times as long.
+ */
+uint32_t baseflow_staggered(uint32_t block_days, uint32_t factor, uint32_t choice, const uint32_t *days,
+                            size_t days_len, uint64_t *base, size_t base_len, uint64_t *work, size_t work_len);
 
 /*
  * Totals over the days that have a base value, and the base flow index.

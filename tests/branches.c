@@ -185,6 +185,34 @@
     X(TOTALS_HALF_BELOW, "totals", "accepted, index at a half, even below")                                            \
     X(TOTALS_HALF_ABOVE, "totals", "accepted, index at a half, even above")                                            \
     X(TOTALS_MOST_DAYS, "totals", "accepted, 36,525 days")                                                             \
+    X(STAGGERED_16_N, "staggered", "refused 16, N")                                                                    \
+    X(STAGGERED_16_G, "staggered", "refused 16, g")                                                                    \
+    X(STAGGERED_16_CHOICE_LOW, "staggered", "refused 16, choice 0")                                                    \
+    X(STAGGERED_16_CHOICE_HIGH, "staggered", "refused 16, choice 4 or more")                                           \
+    X(STAGGERED_16_AND_9, "staggered", "refused 16 for the choice, though 9 holds")                                    \
+    X(STAGGERED_9, "staggered", "refused 9")                                                                           \
+    X(STAGGERED_14, "staggered", "refused 14")                                                                         \
+    X(STAGGERED_14_AND_25, "staggered", "refused 14, though 25 holds")                                                 \
+    X(STAGGERED_25_SHORT, "staggered", "refused 25, work list short by one")                                           \
+    X(STAGGERED_25_LONG, "staggered", "refused 25, work list long")                                                    \
+    X(STAGGERED_25_ONE_LINE, "staggered", "refused 25, work list of one line")                                         \
+    X(STAGGERED_25_AND_10, "staggered", "refused 25, though 10 holds")                                                 \
+    X(STAGGERED_10, "staggered", "refused 10")                                                                         \
+    X(STAGGERED_17, "staggered", "refused 17")                                                                         \
+    X(STAGGERED_LOWEST, "staggered", "accepted, lowest")                                                               \
+    X(STAGGERED_HIGHEST, "staggered", "accepted, highest")                                                             \
+    X(STAGGERED_MEDIAN, "staggered", "accepted, median")                                                               \
+    X(STAGGERED_N_1, "staggered", "accepted, N 1")                                                                     \
+    X(STAGGERED_N_30, "staggered", "accepted, N 30")                                                                   \
+    X(STAGGERED_NOT_FIRST, "staggered", "accepted, no line at shift 0")                                                \
+    X(STAGGERED_ONLY_LAST, "staggered", "accepted, a line at the last shift alone")                                    \
+    X(STAGGERED_ALL, "staggered", "accepted, a line at every shift, N over 1")                                         \
+    X(STAGGERED_NONE, "staggered", "accepted, a day that no line has")                                                 \
+    X(STAGGERED_ONE, "staggered", "accepted, a day that one line of several has")                                      \
+    X(STAGGERED_EVEN, "staggered", "accepted, median of an even number of unlike values")                              \
+    X(STAGGERED_ODD, "staggered", "accepted, median of an odd number of unlike values")                                \
+    X(STAGGERED_SHORT_STRETCH, "staggered", "accepted, a stretch shorter than a shift")                                \
+    X(STAGGERED_MOST_DAYS, "staggered", "accepted, 36,525 days")                                                       \
     X(RECESSION_18_LOW, "recession", "refused 18, L low")                                                              \
     X(RECESSION_18_HIGH, "recession", "refused 18, L high")                                                            \
     X(RECESSION_9, "recession", "refused 9")                                                                           \
@@ -777,6 +805,113 @@ static void count_totals(const struct test_case *c, uint32_t answer, const struc
     }
 }
 
+// ---- staggered lines
+
+// How many lines have a value on day t, and whether two of them differ there.
+static size_t values_on(const struct test_case *c, const uint64_t *work, size_t t, int *unlike)
+{
+    size_t count = 0;
+    uint64_t first = NO_VALUE;
+    *unlike = 0;
+    for (size_t o = 0; o < c->block_days; o++) {
+        uint64_t value = work[o * c->days_len + t];
+        *unlike |= value != NO_VALUE && count > 0 && value != first;
+        first = count == 0 ? value : first;
+        count += value != NO_VALUE;
+    }
+    return count;
+}
+
+static int has_line(const struct test_case *c, const uint64_t *work, size_t shift)
+{
+    for (size_t t = 0; t < c->days_len; t++)
+        if (work[shift * c->days_len + t] != NO_VALUE)
+            return 1;
+    return 0;
+}
+
+static size_t shortest_stretch(const struct test_case *c)
+{
+    size_t shortest = SIZE_MAX, count = 0;
+    for (size_t t = 0; t <= c->days_len; t++) {
+        if (t < c->days_len && c->days[t] != MISSING) {
+            count++;
+            continue;
+        }
+        shortest = count > 0 && count < shortest ? count : shortest;
+        count = 0;
+    }
+    return shortest;
+}
+
+static void count_drawn(const struct test_case *c, const uint64_t *work)
+{
+    size_t lines = 0, N = c->block_days;
+    for (size_t o = 0; o < N; o++)
+        lines += (size_t)has_line(c, work, o);
+    hit_if(!has_line(c, work, 0), STAGGERED_NOT_FIRST);
+    hit_if(lines == 1 && N > 1 && has_line(c, work, N - 1), STAGGERED_ONLY_LAST);
+    hit_if(lines == N && N > 1, STAGGERED_ALL);
+    int none = 0, one = 0, even = 0, odd = 0;
+    for (size_t t = 0; t < c->days_len; t++) {
+        int unlike;
+        size_t count = values_on(c, work, t, &unlike);
+        none |= count == 0;
+        one |= count == 1 && N > 1;
+        even |= c->choice == 3 && unlike && count % 2 == 0;
+        odd |= c->choice == 3 && unlike && count % 2 == 1;
+    }
+    hit_if(none, STAGGERED_NONE);
+    hit_if(one, STAGGERED_ONE);
+    hit_if(even, STAGGERED_EVEN);
+    hit_if(odd, STAGGERED_ODD);
+}
+
+static void count_staggered(const struct test_case *c, uint32_t answer, const uint64_t *work)
+{
+    int bad_day = 0;
+    for (size_t t = 0; t < c->days_len; t++)
+        bad_day |= c->days[t] > MOST_FLOW && c->days[t] != MISSING;
+    size_t wanted = (size_t)c->block_days * c->days_len;
+    switch (answer) {
+    case 16:
+        if (c->block_days < 1 || c->block_days > 30)
+            hit(STAGGERED_16_N);
+        else if (c->factor < 1 || c->factor > 9999)
+            hit(STAGGERED_16_G);
+        else
+            hit(c->choice < 1 ? STAGGERED_16_CHOICE_LOW : STAGGERED_16_CHOICE_HIGH);
+        hit_if((c->choice < 1 || c->choice > 3) && c->days_len > MOST_DAYS, STAGGERED_16_AND_9);
+        break;
+    case 9:
+        hit(STAGGERED_9);
+        break;
+    case 14:
+        hit(STAGGERED_14);
+        hit_if(c->work_len != wanted, STAGGERED_14_AND_25);
+        break;
+    case 25:
+        hit_if(c->work_len + 1 == wanted, STAGGERED_25_SHORT);
+        hit_if(c->work_len > wanted, STAGGERED_25_LONG);
+        hit_if(c->work_len == c->days_len && c->days_len > 0, STAGGERED_25_ONE_LINE);
+        hit_if(bad_day, STAGGERED_25_AND_10);
+        break;
+    case 10:
+        hit(STAGGERED_10);
+        break;
+    case 17:
+        hit(STAGGERED_17);
+        break;
+    default:
+        hit(c->choice == 1 ? STAGGERED_LOWEST : c->choice == 2 ? STAGGERED_HIGHEST : STAGGERED_MEDIAN);
+        hit_if(c->block_days == 1, STAGGERED_N_1);
+        hit_if(c->block_days == 30, STAGGERED_N_30);
+        hit_if(shortest_stretch(c) + 1 < c->block_days, STAGGERED_SHORT_STRETCH);
+        hit_if(c->days_len == MOST_DAYS, STAGGERED_MOST_DAYS);
+        count_drawn(c, work);
+    }
+}
+
 // ---- recession
 
 // Notes the length of the next counted limb; `before` is that of the one before, 0 for none.
@@ -1078,7 +1213,8 @@ static void count_bfimax(const struct test_case *c, uint32_t answer, const struc
     }
 }
 
-void count_branch(const struct test_case *c, uint32_t answer, const struct outs *outs, const uint64_t *base)
+void count_branch(const struct test_case *c, uint32_t answer, const struct outs *outs, const uint64_t *base,
+                  const uint64_t *work)
 {
     switch (c->call) {
     case READ:
@@ -1099,6 +1235,9 @@ void count_branch(const struct test_case *c, uint32_t answer, const struct outs 
         break;
     case TOTALS:
         count_totals(c, answer, outs);
+        break;
+    case STAGGERED:
+        count_staggered(c, answer, work);
         break;
     case RECESSION:
         count_recession(c, answer, outs);

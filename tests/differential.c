@@ -23,13 +23,14 @@
 #include "differential.h"
 #include "reference.h"
 
-enum list { BYTES, DAYS, BASE, LIMBS, LISTS };
+enum list { BYTES, DAYS, BASE, LIMBS, WORK, LISTS };
 enum { GUARD = 64, GUARD_BYTE = 0x5a };
 
 static const char *const call_names[CALLS] = {"read", "filter", "step", "steps", "line", "totals", "recession",
-                                             "bfimax"};
-static const char *const list_names[LISTS] = {"bytes", "days", "base", "limbs"};
-static const size_t widths[LISTS] = {1, 4, 8, 4};
+                                             "bfimax", "staggered"};
+static const char *const list_names[LISTS] = {"bytes", "days", "base", "limbs", "work"};
+static const size_t widths[LISTS] = {1, 4, 8, 4, 8};
+static const size_t rooms[LISTS] = {ROOM_BYTES, ROOM_DAYS, ROOM_DAYS, ROOM_DAYS, ROOM_WORK};
 
 struct side {
     const char *name;
@@ -42,12 +43,12 @@ struct side {
 
 static size_t *length_of(struct test_case *c, enum list list)
 {
-    return (size_t *[]){&c->bytes_len, &c->days_len, &c->base_len, &c->limbs_len}[list];
+    return (size_t *[]){&c->bytes_len, &c->days_len, &c->base_len, &c->limbs_len, &c->work_len}[list];
 }
 
 static size_t length(const struct test_case *c, enum list list)
 {
-    return (const size_t[]){c->bytes_len, c->days_len, c->base_len, c->limbs_len}[list];
+    return (const size_t[]){c->bytes_len, c->days_len, c->base_len, c->limbs_len, c->work_len}[list];
 }
 
 static size_t size(const struct test_case *c, enum list list)
@@ -57,13 +58,14 @@ static size_t size(const struct test_case *c, enum list list)
 
 static const void *content(const struct test_case *c, enum list list)
 {
-    return (const void *[]){c->bytes, c->days, c->base, c->limbs}[list];
+    return (const void *[]){c->bytes, c->days, c->base, c->limbs, c->work}[list];
 }
 
 static int may_write(enum call call, enum list list)
 {
     return (call == READ && list == DAYS) || (call == RECESSION && list == LIMBS) ||
-           ((call == FILTER || call == LINE || call == BFIMAX) && list == BASE);
+           ((call == FILTER || call == LINE || call == BFIMAX || call == STAGGERED) && list == BASE) ||
+           (call == STAGGERED && list == WORK);
 }
 
 // ---- the calls of each side, with out-parameters in fixed places
@@ -85,6 +87,9 @@ static int may_write(enum call call, enum list list)
         case RECESSION:                                                                                                \
             return prefix##recession(c->limb_days, lists[DAYS], c->days_len, lists[BASE], c->base_len, lists[LIMBS],   \
                                      c->limbs_len, &small[0], &small[1]);                                              \
+        case STAGGERED:                                                                                                \
+            return prefix##staggered(c->block_days, c->factor, c->choice, lists[DAYS], c->days_len, lists[BASE],       \
+                                     c->base_len, lists[WORK], c->work_len);                                           \
         case BFIMAX:                                                                                                   \
             return prefix##bfimax(c->last_day, c->duration, c->p, lists[DAYS], c->days_len, lists[BASE], c->base_len,  \
                                   &small[0]);                                                                          \
@@ -102,8 +107,9 @@ static struct side reference = {.name = "reference", .call = reference_call};
 
 static void make_room(struct side *side)
 {
-    size_t page = (size_t)sysconf(_SC_PAGESIZE), room = (8 * ROOM_DAYS / page + 2) * page;
+    size_t page = (size_t)sysconf(_SC_PAGESIZE);
     for (enum list list = 0; list < LISTS; list++) {
+        size_t room = (widths[list] * rooms[list] / page + 2) * page;
         uint8_t *start = mmap(NULL, room + page, PROT_READ | PROT_WRITE, MAP_PRIVATE | MAP_ANONYMOUS, -1, 0);
         if (start == MAP_FAILED || mprotect(start + room, page, PROT_NONE) != 0) {
             perror("differential: memory");
@@ -226,6 +232,7 @@ static void copy(struct test_case *to, const struct test_case *from)
     memcpy(to->days, from->days, size(from, DAYS));
     memcpy(to->base, from->base, size(from, BASE));
     memcpy(to->limbs, from->limbs, size(from, LIMBS));
+    memcpy(to->work, from->work, size(from, WORK));
 }
 
 // Keeps the attempt if it still fails.
@@ -242,12 +249,14 @@ static int keep(void)
 
 static void cut(struct test_case *c, enum list list, size_t at, size_t count)
 {
-    uint8_t *from = (void *[]){c->bytes, c->days, c->base, c->limbs}[list];
+    uint8_t *from = (void *[]){c->bytes, c->days, c->base, c->limbs, c->work}[list];
     size_t width = widths[list], behind = length(c, list) - at - count;
     memmove(from + at * width, from + (at + count) * width, behind * width);
     *length_of(c, list) -= count;
     if (list == DAYS && at + count <= c->last_day && c->last_day < c->days_len + count)
         c->last_day -= (uint32_t)count; // the same day, at its new place
+    size_t of_lines = c->call == STAGGERED && list == DAYS && c->block_days <= 30 ? c->block_days * count : 0;
+    c->work_len -= of_lines < c->work_len ? of_lines : c->work_len; // as far from N x days as it was
 }
 
 static int cut_pieces(enum list list, int with_base)
@@ -326,9 +335,9 @@ static void print_element(const void *list, enum list kind, size_t at)
 {
     if (kind == BYTES)
         printf("%02X", ((const uint8_t *)list)[at]);
-    else if (kind == BASE && ((const uint64_t *)list)[at] == NO_VALUE)
+    else if ((kind == BASE || kind == WORK) && ((const uint64_t *)list)[at] == NO_VALUE)
         printf("none");
-    else if (kind == BASE)
+    else if (kind == BASE || kind == WORK)
         printf("%" PRIu64, ((const uint64_t *)list)[at]);
     else if (kind == DAYS && ((const uint32_t *)list)[at] == MISSING)
         printf("missing");
@@ -371,7 +380,9 @@ static void print_arguments(const struct test_case *c)
         printf("  passes %" PRIu32 "\n", c->passes);
     if (c->call == STEP)
         printf("  day %" PRIu32 "\n", c->day);
-    if (c->call == LINE)
+    if (c->call == STAGGERED)
+        printf("  choice %" PRIu32 "\n", c->choice);
+    if (c->call == LINE || c->call == STAGGERED)
         printf("  block_days %" PRIu32 ", factor %" PRIu32 "\n", c->block_days, c->factor);
     if (c->call == RECESSION)
         printf("  limb_days %" PRIu32 "\n", c->limb_days);
@@ -423,7 +434,7 @@ int main(int argc, char **argv)
             report(&smallest);
             return 1;
         }
-        count_branch(&c, reference.answer, &reference.outs, reference.lists[BASE]);
+        count_branch(&c, reference.answer, &reference.outs, reference.lists[BASE], reference.lists[WORK]);
     }
     print_branches();
     return 0;

@@ -11,10 +11,10 @@
 enum { MOST_FLOW = 10000000, MOST_DAYS = 36525, MOST_FIRST_DAY = 99999, MOST_DURATION = 3650 };
 
 // STEPS is no call of its own: daily steps from a fresh state over a day list, held to pass 1 of the filter.
-enum call { READ, FILTER, STEP, STEPS, LINE, TOTALS, RECESSION, BFIMAX, CALLS };
+enum call { READ, FILTER, STEP, STEPS, LINE, TOTALS, RECESSION, BFIMAX, STAGGERED, CALLS };
 
 // The room that a case has for each list, in elements.
-enum { ROOM_BYTES = 6 * MOST_DAYS, ROOM_DAYS = MOST_DAYS + 100 };
+enum { ROOM_BYTES = 6 * MOST_DAYS, ROOM_DAYS = MOST_DAYS + 100, ROOM_WORK = 5 * MOST_DAYS + 100 };
 
 // The out-parameters of any call. Those that a call does not have are compared as well.
 struct outs {
@@ -28,15 +28,17 @@ struct test_case {
     uint32_t method, p, q, passes; // FILTER, STEP and STEPS; p also BFIMAX
     int32_t s;                     // FILTER, STEP and STEPS
     uint32_t day;                  // STEP
-    uint32_t block_days, factor;   // LINE
+    uint32_t block_days, factor;   // LINE and STAGGERED
+    uint32_t choice;               // STAGGERED
     uint32_t limb_days;            // RECESSION
     uint32_t last_day, duration;   // BFIMAX
     struct outs outs;              // STEP: has_yesterday small[0], flow small[1], base large[0]
-    size_t bytes_len, days_len, base_len, limbs_len;
+    size_t bytes_len, days_len, base_len, limbs_len, work_len;
     uint8_t bytes[ROOM_BYTES];
     uint32_t days[ROOM_DAYS];
     uint64_t base[ROOM_DAYS];
     uint32_t limbs[ROOM_DAYS];
+    uint64_t work[ROOM_WORK];
 };
 
 // The counted limbs of a case of RECESSION, and what else is seen on the way.
@@ -55,7 +57,8 @@ struct limb_view view_limbs(const struct test_case *c);
 void generate(struct test_case *c, uint64_t seed, uint64_t number);
 
 // Counts the branch that a case took, from its arguments, the agreed answer and what was written.
-void count_branch(const struct test_case *c, uint32_t answer, const struct outs *outs, const uint64_t *base);
+void count_branch(const struct test_case *c, uint32_t answer, const struct outs *outs, const uint64_t *base,
+                  const uint64_t *work);
 void print_branches(void);
 
 #endif

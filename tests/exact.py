@@ -176,6 +176,35 @@ def measure(engine, setting, first, stated, shares):
     shares.within("index", index, 10 * T_exact / Y, HALF + 10 * m * limit / Y)
 
 
+# "Staggered blocks": 14.4
+def staggered_cases():
+    rng = random.Random(2026)
+    for name, river in rivers(rng):
+        for block_days, factor in ((1, 9000), (2, 9000), (5, 9000), (7, 9999), (30, 9500), (rng.randrange(1, 31), rng.randrange(1, 10000))):
+            yield name, block_days, factor, river
+    for _ in range(300):
+        river = [rng.choice((None, *(rng.randrange(rng.choice((4, 100, 10_000_001))) for _ in range(12))))
+                 for _ in range(rng.randrange(1, 80))]
+        yield "any", rng.randrange(1, 9), rng.randrange(1, 10000), river
+
+
+def measure_staggered(engine, block_days, factor, days, shares):
+    """Each shifted line, and each of the three choices, beside the exact one; how many runs that was."""
+    wanted = rules.no_lines(block_days, factor, days)
+    exact = rules.lines_over(Fraction, block_days, factor, days)
+    for choice, name in ((1, "lowest"), (2, "highest"), (3, "median")):
+        number, given = refused(engine.staggered, block_days, factor, choice, days)
+        assert number == wanted, f"choice {choice} answers {number}, where {wanted} is due"
+        if wanted is not None:
+            continue
+        base, lines = given
+        assert lines == rules.lines_over(rules.near, block_days, factor, days), "other lines than the rule gives"
+        for line, fractions in zip(lines, exact, strict=True):
+            shares.days_within("a shifted line", days, line, fractions, HALF)
+        shares.days_within(f"{name} of the shifted lines", days, base, rules.chosen(choice, exact), HALF)
+    return 0 if wanted else 3
+
+
 # "BFImax": 13.5, 13.6
 def recession(rng, p, days):
     """A river that keeps close to the rule: each flow is about the following day's value divided by p / 10000."""
@@ -252,6 +281,8 @@ def worked_rivers(engine):
     line = [None, 8000, 8333, 8667, 9000, None]
     flows = [10, 8, 10, 20, 9, 30]
     falling = [100, 90, 81, 72]
+    unlike = [18, 16, 12, 12, 14, 11, 14, 13, 15]
+    stretches = [14, 14, 14, 17, 11, 19, 12, 19, 12, 11, 17, 12, 10, None, 15, None, 5, 10, 19, 6, 5, 13, 9, 5, 13, 11, 7, 12]
     dry_block = [12, 11, 10, 13, 14] + [0] * 5 + [15, 10, 12, 11, 13, 9, 8, 8, 9, 10, 10, 12, 13, 14, 15]
     return [
         ("method 1", engine.filter(1, 9250, 0, 0, 1, [100, 200]), [50000, 57500]),
@@ -279,6 +310,15 @@ def worked_rivers(engine):
          [None] * 5 + [0] * 5 + [3636, 4364, 5091, 5818, 6545, 7273, 8000] + [None] * 8),
         ("no flow", engine.line(1, 9000, [0] * 5), [None, 0, 0, 0, None]),
         ("no flow, no totals", refused(engine.totals, [0] * 5, [None, 0, 0, 0, None])[0], 21),
+        ("staggered, N 1", [engine.staggered(1, 9000, choice, flows)[0] for choice in (1, 2, 3)], [line] * 3),
+        ("staggered, N 2", [engine.staggered(2, 9000, choice, unlike)[0][2:6] for choice in (1, 2, 3)],
+         [[12000, 11667, 11333, 11000], [12000, 12000, 11500, 11000], [12000, 11667, 11333, 11000]]),
+        ("staggered, N 2, the lines", [line[1:7] for line in engine.staggered(2, 9000, 1, unlike)[1]],
+         [[None, 12000, 11667, 11333, 11000, None], [None, None, 12000, 11500, 11000, None]]),
+        ("staggered, a stretch shorter than its shift", engine.staggered(3, 9000, 2, stretches)[0],
+         [None] * 4 + [11000, 11500, 12000, 11000, 11000, 11000] + [None] * 10 + [5000] * 4 + [None] * 4),
+        ("staggered, no line", refused(engine.staggered, 2, 9000, 1, [5, 4, 6])[0], 17),
+        ("staggered, choice 0 and 4", [refused(engine.staggered, 2, 9000, choice, flows)[0] for choice in (0, 4)], [16, 16]),
         ("two dry blocks alone", refused(engine.line, 1, 9000, [0, 0])[0], 17),
         ("L 3", ratios(3, [100, 90, 81]), (2, 9000, [(0, 3)])),
         ("L 4", refused(ratios, 4, [100, 90, 81])[0], 19),
@@ -332,9 +372,15 @@ def main():
             bfimax_runs += measure_bfimax(engine, last, duration, p, days, shares)
         except AssertionError as wrong:
             sys.exit(f"river '{name}', BFImax with last day {last}, D {duration}, p {p}: {wrong}")
+    staggered_runs = 0
+    for name, block_days, factor, days in staggered_cases():
+        try:
+            staggered_runs += measure_staggered(engine, block_days, factor, days, shares)
+        except AssertionError as wrong:
+            sys.exit(f"river '{name}', staggered lines with N {block_days}, g {factor}: {wrong}")
     lines = [f"exact: {runs} runs through the C interface lie within their limits; the largest share of each:"]
     lines += [f"  {figure}: {float(share):.3f}" for figure, share in sorted(shares.reached.items())]
-    lines.append(f"exact: {bfimax_runs} further runs, of BFImax, lie within theirs")
+    lines.append(f"exact: {bfimax_runs} further runs, of BFImax, and {staggered_runs}, of staggered lines, lie within theirs")
     (products() / "exact.txt").write_text("\n".join(lines) + "\n")
     print("\n".join(lines))
 

@@ -277,6 +277,44 @@ static void make_line(struct test_case *c)
     fill_base(c);
 }
 
+// Rivers whose lines differ from shift to shift: short blocks with few turning points, stretches of every length around N,
+// and lists in which only one shift, or none, has a line.
+static void fill_stretches(struct test_case *c)
+{
+    uint32_t style = below(3), limit = AMONG(3, 10, 1000);
+    c->days_len = 0;
+    for (uint32_t parts = between(1, 6); parts > 0; parts--) {
+        uint32_t count = style == 0 ? between(1, c->block_days + 2) : between(2 * c->block_days, 6 * c->block_days + 3);
+        while (count-- > 0)
+            c->days[c->days_len++] = below(limit) + (one_in(3) ? limit : 0);
+        c->days[c->days_len] = MISSING;
+        c->days_len += !one_in(3);
+    }
+    spoil_day(c);
+}
+
+static void make_staggered(struct test_case *c)
+{
+    make_line(c);
+    uint32_t days_per_block = c->block_days >= 1 && c->block_days <= 30 ? c->block_days : between(1, 3);
+    if (days_per_block == c->block_days && c->days_len * days_per_block <= 4000 && one_in(2)) {
+        fill_stretches(c);
+        fill_base(c);
+    }
+    if (c->days_len * days_per_block > ROOM_WORK - 10) // a long list has few lines
+        c->block_days = days_per_block = between(1, 5);
+    c->choice = spoil() ? AMONG(0, 4, 5, MISSING) : between(1, 3);
+    c->work_len = days_per_block * c->days_len;
+    if (spoil())
+        c->work_len = one_in(4)   ? c->days_len
+                      : one_in(3) ? 0
+                      : one_in(2) && c->work_len > 0 ? c->work_len - 1
+                                                     : c->work_len + between(1, 9);
+    uint64_t content = one_in(2) ? NO_VALUE : draw();
+    for (size_t i = 0; i < c->work_len; i++)
+        c->work[i] = content + i;
+}
+
 // Base flow with which the index lies at a half: one day's flow makes Y a multiple of 20, and T is an odd number of
 // twentieths of Y, on the days from the first on as far as it goes.
 static void halve_index(struct test_case *c)
@@ -636,16 +674,17 @@ void generate(struct test_case *c, uint64_t seed, uint64_t number)
     static void (*const make[CALLS])(struct test_case *) = {
         [READ] = make_read,     [FILTER] = make_filter, [STEP] = make_step,           [STEPS] = make_steps,
         [LINE] = make_line,     [TOTALS] = make_totals, [RECESSION] = make_recession, [BFIMAX] = make_bfimax,
+        [STAGGERED] = make_staggered,
     };
     state = seed << 40 ^ number;
     state = draw();
-    c->bytes_len = c->days_len = c->base_len = c->limbs_len = 0;
+    c->bytes_len = c->days_len = c->base_len = c->limbs_len = c->work_len = 0;
     for (size_t i = 0; i < 4; i++) {
         c->outs.small[i] = (uint32_t)draw();
         c->outs.large[i] = draw();
     }
     rough = one_in(5);
-    uint32_t turn = below(23);
+    uint32_t turn = below(25);
     c->call = turn < 6    ? READ
               : turn < 10 ? FILTER
               : turn < 12 ? STEP
@@ -653,6 +692,7 @@ void generate(struct test_case *c, uint64_t seed, uint64_t number)
               : turn < 15 ? LINE
               : turn < 17 ? TOTALS
               : turn < 20 ? RECESSION
-                          : BFIMAX;
+              : turn < 23 ? BFIMAX
+                          : STAGGERED;
     make[c->call](c);
 }

@@ -86,13 +86,14 @@ def measured():
     if not path.exists():
         sys.exit(f"{path} is not there; `tests/exact.py` makes it")
     text = path.read_text()
-    runs, bfimax_runs = (re.search(rf"exact: (\d+) {what}", text)[1] for what in ("runs", "further runs, of BFImax"))
+    runs, bfimax_runs, staggered_runs = (
+        re.search(rf"(\d+){what}", text)[1] for what in (" runs", " further runs, of BFImax", ", of staggered lines"))
     shares = {figure: Fraction(share) for figure, share in re.findall(r"^  (.*): ([\d.]+)$", text, re.MULTILINE)}
     close = [figure for figure, share in shares.items() if share >= CLOSE]
     rest = [f"{figure} {float(share):.3f}" for figure, share in shares.items() if share < CLOSE]
-    yield (f"`tests/exact.py` works out {runs} runs anew, and {bfimax_runs} of BFImax. The largest share of a limit "
-           f"that was reached is at least {decimal(CLOSE, 2)} for {', '.join(close)}: there no much smaller limit would "
-           f"hold. For the others it is: {', '.join(rest)}.")
+    yield (f"`tests/exact.py` works out {runs} runs anew, {bfimax_runs} of BFImax and {staggered_runs} of staggered "
+           f"lines. The largest share of a limit that was reached is at least {decimal(CLOSE, 2)} for "
+           f"{', '.join(close)}: there no much smaller limit would hold. For the others it is: {', '.join(rest)}.")
 
 
 def main():

@@ -83,6 +83,15 @@ class Engine:
                   size(days))
         return base_values(base, days)
 
+    def staggered(self, block_days, factor, choice, days):
+        """The chosen base list, and the lines of all shifts."""
+        base = listed(ctypes.c_uint64, [0] * len(days))
+        work = listed(ctypes.c_uint64, [0] * (block_days * len(days)))
+        self.call("staggered", *map(ctypes.c_uint32, (block_days, factor, choice)), day_list(days), size(days), base,
+                  size(days), work, ctypes.c_size_t(block_days * len(days)))
+        lines = [work[o * len(days):(o + 1) * len(days)] for o in range(block_days)]
+        return base_values(base, days), [base_values(line, days) for line in lines]
+
     def steps(self, method, p, q, s, days):
         """The values of daily steps from a fresh state."""
         state = ctypes.c_uint32(0), ctypes.c_uint32(0), ctypes.c_uint64(0)

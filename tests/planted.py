@@ -34,6 +34,10 @@ NOT_REFUSED = "(base[end] == NO_VALUE || base[end] <= 1000 * (uint64_t)days[end]
 MEDIAN = "uint32_t place = 0, below = counts[0];"
 SPELL_TEST = "if (!are_present(days, days_len, last_day, duration)) return 24;"
 NO_FLOW_TEST = "if (Y == 0) return 21; for"
+SHIFTED = "draw_lines(block_days, factor, o, days, days_len, work + o * days_len)"
+CHOICE_TEST = "|| !within(choice, 1, 3)) return 16; if (days_len > MOST_DAYS) return 9;"
+WORK_TEST = "if (work_len != block_days * days_len) return 25;"
+OF_VALUES = "if (next == NO_VALUE) continue;"
 BACKWARDS = "value = smaller(1000 * (uint64_t)days[t], near(10000 * value, p));"
 
 
@@ -107,10 +111,33 @@ FAULTS = (
     ("a dry neighbour makes a block turn", "if (middle == 0)", "if (middle == 0 || left == 0)"),
     ("a litre a second counts as dry", "if (middle == 0)", "if (middle <= 1)"),
     ("only the first dry block of a spell turns", "if (middle == 0) return 1;", "if (middle == 0) return left != 0;"),
-    ("an incomplete block is kept", "(end - t) / block_days;", "(end - t + block_days - 1) / block_days;"),
-    ("a write before 17", "if (done == 0) return 17;",
-     "if (days_len > 0 && done == 0) base[0] = NO_VALUE; if (done == 0) return 17;"),
+    ("an incomplete block is kept", "(end - t - shift) / block_days;", "(end - t - shift + block_days - 1) / block_days;"),
+    ("a write before 17", "if (done == 0) return 0;",
+     "if (days_len > 0 && done == 0) base[0] = NO_VALUE; if (done == 0) return 0;"),
     ("a value too many is written", "while (done < days_len)", "while (done <= days_len)"),
+    ("the shift counts from the list's start", "t += shift;", "t += (shift + block_days - t % block_days) % block_days;"),
+    ("every line has shift 0", SHIFTED, "draw_lines(block_days, factor, 0, days, days_len, work + o * days_len)"),
+    ("the shifts count from 1", SHIFTED, "draw_lines(block_days, factor, o + 1, days, days_len, work + o * days_len)"),
+    ("a stretch shorter than its shift is read on", "end - t < shift ? 0 : (end - t - shift) / block_days",
+     "(end - t - shift) / block_days"),
+    ("the lines in falling order of the shift", SHIFTED,
+     "draw_lines(block_days, factor, block_days - 1 - o, days, days_len, work + o * days_len)"),
+    ("the upper of two in the middle", "rising[(count + 1) / 2 - 1]", "rising[count / 2]"),
+    ("the rank goes by all lines", "rising[(count + 1) / 2 - 1]", "rising[smaller((lines + 1) / 2, count) - 1]"),
+    ("no value counts as the mark", OF_VALUES, ""),
+    ("no value counts as 0", OF_VALUES, "if (next == NO_VALUE) next = 0;"),
+    ("no value is the lowest", "low = smaller(low, value[o * apart]);",
+     "low = value[o * apart] == NO_VALUE ? 0 : smaller(low, value[o * apart]);"),
+    ("no value is the highest", "high - 1;", "high == 0 ? 0 : high - 1;"),
+    ("lowest and highest exchanged", "base[t] = choice == 1", "base[t] = choice == 2"),
+    ("17 by shift 0 alone", "if (!any) return 17;", "if (!has_line[0]) return 17;"),
+    ("a line without values keeps what was there", "t < days_len && !has_line[o]", "t < days_len && !any"),
+    ("the choice is tested behind 9", f"if (!within(block_days, 1, 30) || !within(factor, 1, 9999) {CHOICE_TEST}",
+     "if (!within(block_days, 1, 30) || !within(factor, 1, 9999)) return 16; if (days_len > MOST_DAYS) return 9; "
+     "if (!within(choice, 1, 3)) return 16;"),
+    ("25 behind 10", f"{WORK_TEST} {DAYS_TEST}", f"{DAYS_TEST} {WORK_TEST}"),
+    ("25 before 14", f"{LENGTHS_TEST} {WORK_TEST}", f"{WORK_TEST} {LENGTHS_TEST}"),
+    ("a longer work list is taken", WORK_TEST, "if (work_len < block_days * days_len) return 25;"),
     ("the index is cut off", "near(10 * T, Y)", "(10 * T / Y)"),
     ("base equal to flow is refused", "|| base[t] > 1000", "|| base[t] >= 1000"),
     ("equal days fall", "days[end] < days[end - 1]", "days[end] <= days[end - 1]"),

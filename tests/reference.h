@@ -17,6 +17,8 @@ uint32_t NAME(step)(uint32_t method, uint32_t p, uint32_t q, int32_t s, uint32_t
                     uint32_t *flow, uint64_t *base, uint64_t *value);
 uint32_t NAME(line)(uint32_t block_days, uint32_t factor, const uint32_t *days, size_t days_len, uint64_t *base,
                     size_t base_len);
+uint32_t NAME(staggered)(uint32_t block_days, uint32_t factor, uint32_t choice, const uint32_t *days, size_t days_len,
+                         uint64_t *base, size_t base_len, uint64_t *work, size_t work_len);
 uint32_t NAME(totals)(const uint32_t *days, size_t days_len, const uint64_t *base, size_t base_len, uint32_t *base_days,
                       uint64_t *flow_total, uint64_t *base_total, uint64_t *quick_total, uint32_t *index);
 uint32_t NAME(recession)(uint32_t limb_days, const uint32_t *days, size_t days_len, const uint64_t *base,

@@ -61,6 +61,16 @@ def line_call(block_days, factor, days, base):
     return cause
 
 
+def staggered_call(block_days, factor, choice, days, base, work):
+    cause = rules.bad_staggered(block_days, factor, choice, days, len(base), len(work)) or bad_days(days)
+    cause = cause or rules.no_lines(block_days, factor, views(days))
+    if not cause:
+        lines = rules.lines_over(near, block_days, factor, views(days))
+        work[:] = [value for line in lines for value in marks(line)]
+        base[:] = marks(rules.chosen(choice, lines))
+    return cause
+
+
 def totals_call(days, base):
     cause = bad_lists(days, base) or rules.bad_base(views(days), base_views(base))
     return cause or rules.totals(views(days), base_views(base))
@@ -166,6 +176,12 @@ def show_line(block_days, factor, days, base):
     out.append(words('line', block_days, factor) + answer(cause, 'accepted') + base_text(base))
 
 
+def show_staggered(block_days, factor, choice, days, base, work):
+    cause = staggered_call(block_days, factor, choice, days, base, work)
+    out.append(words('staggered', block_days, factor, choice) + answer(cause, 'accepted') + base_text(base))
+    out.append('work' + base_text(work))
+
+
 def show_bfimax(last_day, duration, p, days, base):
     result = bfimax_call(last_day, duration, p, days, base)
     out.append(words('bfimax', last_day, duration, p) + answer(result, 'found') + base_text(base))
@@ -216,6 +232,9 @@ def thirty_years(seed, gaps):
     for setting in ((1, 9000), (5, 9000), (5, 9999), (7, 1), (30, 9500)):
         show_line(*setting, days, base)
         show_totals(days, base)
+    work = [0] * (5 * 10957)
+    for choice in (1, 2, 3):
+        show_staggered(5, 9000, choice, days, base, work)
     base = whole_flows(days)
     for limb_days in (2, 5, 10, 60):
         show_ratios(limb_days, days, base, [0] * 8192)
@@ -238,6 +257,7 @@ def full_record():
     show_line(5, 9000, days, base)
     show_totals(days, base)
     show_ratios(2, days, base, [0] * 8192)
+    show_staggered(2, 9000, 3, days, base, [0] * (2 * 36525))
     show_bfimax(36_524, 3650, 9780, days, base)
 
 
@@ -281,8 +301,15 @@ def refusals():
     for spell in ((2, 2, 0), (2, 1, 9500), (2, 3651, 9500), (4, 2, 9500), (0, 2, 9500), (3, 2, 9500), (2, 2, 9500),
                   (2, 3, 9500)):
         show_bfimax(*spell, days, base)
+    days, base, work = [5, 4, 6], [7] * 3, [7] * 6
+    for setting in ((31, 9000, 1), (2, 9000, 0), (2, 9000, 4), (2, 9000, 1)):
+        show_staggered(*setting, days, base, work)
+    show_staggered(2, 9000, 1, [1] * 36526, base, work)
+    show_staggered(2, 9000, 1, days, [7], work)
+    show_staggered(1, 9000, 1, days, base, work)
+    show_staggered(2, 9000, 1, [5, 10_000_001, 6], base, work)
     seen = {line.split(': refused ')[1].split(',')[0] for line in out if ': refused ' in line}
-    assert seen == {str(n) for n in range(1, 25)}, seen
+    assert seen == {str(n) for n in range(1, 26)}, seen
 
 
 def published():

@@ -139,9 +139,9 @@ def bad_passes(method, passes):
 
 
 # "Block-minima line": 4.1 to 4.4
-def turning_days(block_days, factor, flows):
+def turning_days(block_days, factor, flows, shift=0):
     lowest = []
-    for start in range(0, len(flows) - block_days + 1, block_days):
+    for start in range(shift, len(flows) - block_days + 1, block_days):
         block = flows[start:start + block_days]
         lowest.append(start + block.index(min(block)))
     return [
@@ -150,9 +150,9 @@ def turning_days(block_days, factor, flows):
     ]
 
 
-def line_over(over, block_days, factor, flows):
-    """The line of one stretch."""
-    values, turns = [None] * len(flows), turning_days(block_days, factor, flows)
+def line_over(over, block_days, factor, flows, shift=0):
+    """The line of one stretch, whose blocks begin `shift` days into it."""
+    values, turns = [None] * len(flows), turning_days(block_days, factor, flows, shift)
     for i, j in zip(turns, turns[1:]):
         for t in range(i, j + 1):
             straight = over(1000 * (flows[i] * (j - t) + flows[j] * (t - i)), j - i)
@@ -166,6 +166,39 @@ def bad_line(block_days, factor):
 
 def no_line(block_days, factor, days):
     few = all(len(turning_days(block_days, factor, flows)) < 2 for _, flows in stretches(days))
+    return Refusal(17) if few else None
+
+
+# "Staggered blocks": 14.1 to 14.4
+def lines_over(over, block_days, factor, days):
+    """The lines of all shifts over a day list."""
+    return [over_stretches(lambda flows, o=o: line_over(over, block_days, factor, flows, o), days) for o in range(block_days)]
+
+
+def chosen(choice, lines):
+    """On each day, of the lines that have a value there, the lowest (1), the highest (2) or the one at rank
+    (c + 1) / 2, rounded down (3)."""
+    result = []
+    for values in zip(*lines):
+        there = sorted(value for value in values if value is not None)
+        rank = {1: 1, 2: len(there), 3: (len(there) + 1) // 2}[choice]
+        result.append(there[rank - 1] if there else None)
+    return result
+
+
+def bad_staggered(block_days, factor, choice, days, base_len, work_len):
+    """The first cause of refusal, or None; `days` are views, so 10 is for the caller to test before 17."""
+    if bad_line(block_days, factor) or choice not in (1, 2, 3):
+        return Refusal(16)
+    if len(days) > MOST_DAYS:
+        return Refusal(9)
+    if base_len != len(days):
+        return Refusal(14)
+    return None if work_len == block_days * len(days) else Refusal(25)
+
+
+def no_lines(block_days, factor, days):
+    few = all(value is None for line in lines_over(near, block_days, factor, days) for value in line)
     return Refusal(17) if few else None
 
 

@@ -12,6 +12,7 @@ ghost use Rattle.series.specs.Causes.{refusalOf, firstCause};
 ghost use Rattle.record.specs.Call.{reading, replyOf, readLeaves};
 ghost use Rattle.filter.specs.Call.{filterCauses, filterLeaves, stepRule};
 ghost use Rattle.minima.specs.Call.{lineCauses, lineLeaves};
+ghost use Rattle.staggered.specs.Call.{staggeredCauses, baseLeaves, workLeaves};
 ghost use Rattle.totals.specs.Call.{totalsOutcome};
 ghost use Rattle.bfimax.specs.Call.{spellOf, bfimaxOutcome, bfimaxLeaves};
 ghost use Rattle.recession.specs.Call.{ratioOutcome, ratioLeaves};
@@ -80,6 +81,24 @@ pub extern "C" fn baseflow_line(block_days: u32, factor: u32, days: &[u32], base
 {
     let setting = LineSetting { block_days, factor };
     number(minima::line(setting, days, base))
+}
+
+// The lowest, the highest or the median of the minima lines of all shifts of the blocks.
+#[no_mangle]
+pub extern "C" fn baseflow_staggered(
+    block_days: u32,
+    factor: u32,
+    choice: u32,
+    days: &[u32],
+    base: &mut [u64],
+    work: &mut [u64],
+) -> u32
+    ensures { λ r. ⌜ r ≡ returnedCause (firstCause (staggeredCauses (lineSettingOf «block_days» factor) choice (now (days .entry)) (now (base .entry)) (now (work .entry)))) ⌝ }
+    ensures { λ _. ⌜ now (base .exit) ≡ baseLeaves (lineSettingOf «block_days» factor) choice (now (days .entry)) (now (base .entry)) (now (work .entry)) ⌝ }
+    ensures { λ _. ⌜ now (work .exit) ≡ workLeaves (lineSettingOf «block_days» factor) choice (now (days .entry)) (now (base .entry)) (now (work .entry)) ⌝ }
+{
+    let setting = LineSetting { block_days, factor };
+    number(staggered::staggered(setting, choice, days, base, work))
 }
 
 // Totals and index of a day list and its base list.

@@ -1,21 +1,28 @@
 -- What is known of a call by its first cause: where it accepts, each test that it passed and the line that it leaves; where
 -- it refuses, that the base list is as it was.
 -- Assumes nothing.
-use Prim.Native.Nat.{ℕ}
+use Prim.Native.Nat.{ℕ, _≤_}
 use mathlib.Core.Path.{_≡_}
 use mathlib.Core.Bool.{false}
 use mathlib.Core.List.{List, map}
 use mathlib.Core.Option.{none, some}
 use lib.ListN.{length}
+use borrow.Author.Tests.{not-false}
 use Rattle.numbers.specs.Arithmetic.{rounded}
 use Rattle.series.specs.Units.{dayOf, baseMark}
 use Rattle.series.specs.Causes.{firstCause}
 use Rattle.series.specs.Lists.{tooLong, anyInvalidDay}
 use Rattle.series.proofs.Refusing.{passed, leaves-accepted, leaves-refused}
 use Rattle.series.proofs.Tests as tests
+use Rattle.series.proofs.Views.{lies, both-of}
 use Rattle.minima.specs.declared.LineSetting.{LineSetting}
 use Rattle.minima.specs.Line.{lineOver}
 use Rattle.minima.specs.Call.{blocksOf, outOfRange, noLine, lineCauses, lineList, lineLeaves}
+
+-- N in its range
+pub block-range : (s : LineSetting) → outOfRange s ≡ false → (1 ≤ s .«block_days») × (s .«block_days» ≤ 30)
+unfolding outOfRange
+block-range s e = lies 1 30 (s .«block_days») (both-of _ _ (not-false _ e) .0)
 
 module _ (s : LineSetting) (days base : List ℕ) where
   pub record LineAccepted : Type 0 where

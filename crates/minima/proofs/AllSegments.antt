@@ -10,13 +10,13 @@ use native.Mathlib.Nat.{add-zero, add-sub-of-le, lt-of-not-le}
 use native.Mathlib.Numerals.{add-one}
 use native.Mathlib.Decide.{decLe, ℕ-discrete}
 use native.Mathlib.Omega.{arith}
-use lib.ListN.{length, getD, take, drop, length-map, length-append, length-drop, take-append-drop, drop-of-length-le, List·getD-append}
+use lib.ListN.{length, getD, take, drop, length-append, length-drop, take-append-drop, drop-of-length-le, List·getD-append}
 use lib.Seq.{length-take-le, getD-take, getD-drop, getD-append-add, drop-drop, drop-at, drop-cons, ext-getD}
 use lib.Dec.{ltb}
 use borrow.Author.Tests.{eq-eqb, ne-eqb, lt-ltb, le-ltb}
 use Rattle.numbers.specs.Arithmetic.{rounded}
 use Rattle.series.specs.Units.{dayLimit, missingMark, noValueMark, dayOf, baseMark}
-use Rattle.series.proofs.Alone.{over-one, over-length}
+use Rattle.series.proofs.Alone.{over-one}
 use Rattle.series.proofs.SegmentParts.{parts-gap, parts-one, over-before-gap}
 use Rattle.series.proofs.Views.{one-of, neither-of, day-missing, day-present, mark-none}
 use Rattle.minima.specs.declared.block.Blocks.{Blocks}
@@ -28,7 +28,8 @@ use Rattle.minima.specs.Call.{hasTwo, anyOf, noLine, lineList}
 use Rattle.minima.specs.Private.{FirstTwo, Filled, Blank, Present, SegmentEnd, Apart, LinedAt, NextLined}
 use Rattle.minima.proofs.Points.{count-fits, all-points, no-triples}
 use Rattle.minima.proofs.Pieces.{first-inside}
-use Rattle.minima.proofs.SegmentLine.{line-length, further, list-length, no-values}
+use Rattle.minima.proofs.Lengths.{line-list-length}
+use Rattle.minima.proofs.SegmentLine.{further, list-length, no-values}
 
 -- days that are present, one by one
 module _ (days : List ℕ) {from : ℕ} where
@@ -136,10 +137,6 @@ module _ (B : Blocks) where
       ]
 
   -- the line of all segments, from a segment's first day on, and from a missing day on
-  lines-length : (days : List ℕ) → length (lineList B days) ≡ length days
-  unfolding lineList lineOver
-  lines-length days = length-map (lineOver rounded B (map dayOf days)) baseMark ∙ over-length (line rounded B) (line-length rounded B) (map dayOf days) ∙ length-map days dayOf
-
   empty-list : lineList B [] ≡ []
   unfolding lineList lineOver line counting
   empty-list = ap (map baseMark) (over-one (line rounded B) [])
@@ -235,7 +232,7 @@ module _ (B : Blocks) where
 
     pub all-drawn : x .points .second .block ≡ 0 → new ≡ lineList B days
     all-drawn z =
-        ext-getD 0 new (lineList B days) (omega (arith, b .same-length, f .same-length, lines-length days)) (λ d h. done-before d (omega (arith, b .same-length, f .same-length, f .next .nowhere z)))
+        ext-getD 0 new (lineList B days) (omega (arith, b .same-length, f .same-length, line-list-length B days)) (λ d h. done-before d (omega (arith, b .same-length, f .same-length, f .next .nowhere z)))
 
     module _ (h : 0 < x .points .second .block) where
       at : LinedAt B days x

@@ -1,7 +1,8 @@
-mod Sentences
+pub mod Sentences
 mod Minima
 mod Points
 mod Pieces
+pub mod Lengths
 mod SegmentLine
 mod AllSegments
 mod Neighbours

@@ -1,6 +1,6 @@
 -- The line of one segment, as the loop over its days draws it.
 -- Assumes nothing.
-use Prim.Native.Nat.{ℕ, zero, suc, _+_, _≤_, _<_}
+use Prim.Native.Nat.{ℕ, _+_, _≤_, _<_}
 use mathlib.Core.Path.{_≡_, refl, sym, _∙_, ap, subst}
 use mathlib.Core.Bool.{false}
 use mathlib.Core.List.{List, map}
@@ -16,29 +16,14 @@ use Rattle.series.specs.Units.{noValueMark, baseMark}
 use Rattle.series.proofs.Views.{mark-none, mark-value}
 use Rattle.minima.specs.declared.block.Blocks.{Blocks}
 use Rattle.minima.specs.declared.block.Turning.{Turning}
-use Rattle.minima.specs.TurningPoints.{counting, turningPoints, neighbours}
+use Rattle.minima.specs.TurningPoints.{turningPoints, neighbours}
 use Rattle.minima.specs.Line.{lineOn, line}
 use Rattle.minima.specs.Call.{hasTwo}
 use Rattle.minima.specs.Private.{Found, Filled, FilledTo, Blank}
+use Rattle.minima.proofs.Lengths.{counting-at, line-length}
 use Rattle.minima.proofs.Pieces.{valueOf, InHand, first-in-hand, before-first, next-in-hand, by-piece, none-left, none-at-all}
 
--- numbers counted off
-counting-length : (k n : ℕ) → length (counting k n) ≡ n
-unfolding counting
-counting-length k zero = refl
-counting-length k (suc n) = ap suc (counting-length (suc k) n)
-
-counting-at : {A : Type 0} (f : ℕ → A) (k n i : ℕ) (d : A) → i < n → getD (map f (counting k n)) i d ≡ f (k + i)
-unfolding counting
-counting-at f k zero i d h = absurd (omega arith)
-counting-at f k (suc n) zero d h = ap f (omega arith)
-counting-at f k (suc n) (suc i) d h = counting-at f (suc k) n i d (omega arith) ∙ ap f (omega arith)
-
 module _ (S : Arithmetic) (B : Blocks) (flows : List ℕ) where
-  pub line-length : length (line S B flows) ≡ length flows
-  unfolding line
-  line-length = length-map (counting 0 (length flows)) _ ∙ counting-length 0 (length flows)
-
   -- the value of a day of the line
   pub line-at : (t : ℕ) (d : Option (S .Number)) → t < length flows → getD (line S B flows) t d ≡ lineOn S flows (neighbours (turningPoints B flows)) t
   unfolding line

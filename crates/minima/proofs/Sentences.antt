@@ -37,7 +37,8 @@ use Rattle.minima.specs.TurningPoints.{turns, TurningPoint, Neighbouring
 use Rattle.minima.specs.Line.{between, line, lineOver}
 use Rattle.minima.specs.Call.{blocksOf, hasTwo, anyOf, noLine}
 use Rattle.minima.proofs.Minima.{whole-block, block-counted, minimum-flow, block-minimum, minimum-inside}
-use Rattle.minima.proofs.SegmentLine.{line-length, line-at}
+use Rattle.minima.proofs.Lengths.{line-length}
+use Rattle.minima.proofs.SegmentLine.{line-at}
 use Rattle.minima.proofs.AllSegments.{no-points, none-passes, one-passes}
 use Rattle.minima.proofs.Neighbours.{Rises, points-in-order, listed-turns, turns-listed, neighbouring-listed, listed-neighbouring, two-neighbours, two-members}
 use Rattle.minima.proofs.Values.{by-any, by-none}
@@ -53,9 +54,12 @@ keeps rounded-line = rounded-keeps
 keeps exact-line = exact-keeps
 
 -- blocks
-pub first-block : (s : LineSetting) → blockStart (blocksOf s) 0 ≡ 0
+pub blocks-begin : (B : Blocks) → blockStart B 0 ≡ B .origin
 unfolding blockStart
-first-block s = omega arith
+blocks-begin B = omega arith
+
+pub first-block : (s : LineSetting) → blockStart (blocksOf s) 0 ≡ 0
+first-block s = blocks-begin (blocksOf s)
 
 module _ (B : Blocks) (flows : List ℕ) (k : ℕ) where
   pub next-block : blockStart B (suc k) ≡ blockStart B k + B .days

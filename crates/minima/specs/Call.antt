@@ -15,9 +15,13 @@ use Rattle.minima.specs.declared.LineSetting.{LineSetting}
 use Rattle.minima.specs.TurningPoints.{turningPoints}
 use Rattle.minima.specs.Line.{lineOver}
 
+-- the blocks of a setting that run from `shift` days into each segment
+abbrev pub blocksAt : LineSetting → (shift : ℕ) → Blocks
+blocksAt s shift = record { days = s .«block_days»; factor = s .factor; origin = shift }
+
 -- the blocks of a setting: document 01 has them run from each segment's first day
 abbrev pub blocksOf : LineSetting → Blocks
-blocksOf s = record { days = s .«block_days»; factor = s .factor; origin = 0 }
+blocksOf s = blocksAt s 0
 
 -- 16: N or g outside its range
 unfoldable pub outOfRange : LineSetting → Bool

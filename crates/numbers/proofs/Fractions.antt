@@ -14,9 +14,10 @@ use lib.Signed.{leZ, leZ-yes}
 use lib.Dec.{T}
 use Rattle.numbers.specs.Near.{near}
 use Rattle.numbers.specs.Whole.{up, down}
-use Rattle.numbers.specs.Fraction.{Fraction, whole, half, sum, opposite, difference, surplus, multiple, quotient, least, AtMost}
+use Rattle.numbers.specs.Fraction.{Fraction, whole, half, sum, opposite, difference, surplus, multiple, quotient, least, atMost, AtMost}
 use Rattle.numbers.specs.Arithmetic.{Close, Weights, weighted, rounded, exact}
 use Rattle.numbers.proofs.Rounding.{near-error}
+use Rattle.numbers.proofs.Sorting.{Order}
 use Rattle.numbers.proofs.Whole.{one-side, up-of-minus, down-of-minus, order, otherwise, of-sum, up-of-multiple, down-of-multiple}
 
 abbrev pub U : Fraction → ℕ
@@ -219,6 +220,44 @@ close-least {p} {m} {n} {f} {g} h k = go (leZ (f .upper *ℤ pos (L g)) (g .uppe
     go : (t : Bool) → leZ (f .upper *ℤ pos (L g)) (g .upper *ℤ pos (L f)) ≡ t → Close p (min m n) (cond t f g)
     go true e = at-least (leZ-yes (subst T (sym e) tt)) h k
     go false e = subst (λ x. Close p x g) (min-comm n m) (at-least (otherwise _ _ e) k h)
+
+-- the order, as it is tested
+pub at-most-true : (f g : Fraction) → atMost f g ≡ true → AtMost f g
+at-most-true f g e = leZ-yes (subst T (sym e) tt)
+
+pub at-most-false : (f g : Fraction) → atMost f g ≡ false → AtMost g f
+at-most-false f g e = otherwise _ _ e
+
+pub at-most-through : (f g h : Fraction) → AtMost f g → AtMost g h → AtMost f h
+at-most-through f g h p q =
+    let a = mul-le-mul-right (L h) (in-naturals f g .0 p) in
+    let b = mul-le-mul-right (L f) (in-naturals g h .0 q) in
+    in-naturals f h .1 (le-of-mul-le-mul-right {k = L g} (omega arith) (g .above-zero))
+
+pub fractions : Order atMost
+fractions =
+    record {
+      itself = λ f. tested f f (in-naturals f f .1 (omega arith));
+      through = λ f g h p q. tested f h (at-most-through f g h (at-most-true f g p) (at-most-true g h q));
+      either = λ f g e. tested g f (at-most-false f g e);
+    }
+  where
+    held : (t : Bool) → T t → t ≡ true
+    held true h = refl
+    held false h = absurd h
+
+    tested : (f g : Fraction) → AtMost f g → atMost f g ≡ true
+    tested f g h = held (atMost f g) (h .le)
+
+-- Whole numbers in one order and their fractions in the other: exchanged, they are no further apart.
+pub close-crossed : {p : Fraction} {m n : ℕ} {f g : Fraction} → m ≤ n → AtMost g f → Close p m f → Close p n g → Close p m g × Close p n f
+close-crossed {p} {m} {n} {f} {g} h k x y =
+    let k′ = mul-le-mul-right (L p) (in-naturals g f .0 k) in
+    let h₁ = mul-le-mul-right (L f * L p) h in
+    let h₂ = mul-le-mul-right (L g * L p) h in
+    let low : OneSided 0 m (D g) (U g) (L g) (U p) (D p) (L p) = le-of-mul-le-mul-right {k = L f} (omega (arith, mul-le-mul-right (L g) (apart x .below))) (f .above-zero) in
+    let high : OneSided n 0 (U f) (D f) (L f) (U p) (D p) (L p) = le-of-mul-le-mul-right {k = L g} (omega (arith, mul-le-mul-right (L f) (apart y .above))) (g .above-zero) in
+    (close (record { above = omega (arith, apart y .above); below = low }), close (record { above = high; below = omega (arith, apart x .below) }))
 
 -- the smaller of two is at most the first, and is not below zero where neither is
 pub least-left : (f g : Fraction) → AtMost (least f g) f

@@ -7,5 +7,6 @@ pub mod Scanning
 pub mod Recursion
 pub mod Pairwise
 pub mod Sorting
+pub mod Ranks
 pub mod Selection
 mod Examples

@@ -1,7 +1,9 @@
 -- The arithmetic in which document 01's rules are stated once. Its two readings are the rounded run and the exact
 -- run: the same rules, near left out everywhere in the second.
 use Prim.Native.Nat.{ℕ, _+_, _*_, _-_, min}
+use mathlib.Core.Bool.{Bool}
 use lib.IntN.{ℤ}
+use lib.Dec.{leb}
 use Rattle.numbers.specs.Near.{near}
 use Rattle.numbers.specs.Whole.{up, down}
 use Rattle.numbers.specs.Fraction as F
@@ -18,14 +20,16 @@ pub record Arithmetic : Type 1 where
   pub multiple : ℕ → Number → Number
   pub quotient : Number → ℕ → Number
   pub least : Number → Number → Number
+  -- whether a number is at most another
+  pub atMost : Number → Number → Bool
 
 -- document 01: the box's run
 abbrev pub rounded : Arithmetic
-rounded = record { Number = ℕ; number = λ n. n; sum = _+_; difference = _-_; surplus = _-_; multiple = _*_; quotient = near; least = min }
+rounded = record { Number = ℕ; number = λ n. n; sum = _+_; difference = _-_; surplus = _-_; multiple = _*_; quotient = near; least = min; atMost = leb }
 
 -- document 01: the exact run
 abbrev pub exact : Arithmetic
-exact = record { Number = Fraction; number = F.whole; sum = F.sum; difference = F.difference; surplus = F.surplus; multiple = F.multiple; quotient = F.quotient; least = F.least }
+exact = record { Number = Fraction; number = F.whole; sum = F.sum; difference = F.difference; surplus = F.surplus; multiple = F.multiple; quotient = F.quotient; least = F.least; atMost = F.atMost }
 
 -- the whole number n, a result of the rounded run, lies within l of the exact f
 pub record Close (l : Fraction) (n : ℕ) (f : Fraction) : Type 0 where

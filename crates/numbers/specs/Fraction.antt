@@ -2,7 +2,7 @@
 -- Everything is done by cross-multiplying, and nothing is reduced.
 use Prim.Native.Nat.{ℕ, zero, suc, _*_, _<_}
 use native.Mathlib.Nat.{mul-pos, zero-lt-suc}
-use mathlib.Core.Bool.{cond}
+use mathlib.Core.Bool.{Bool, cond}
 use lib.IntN.{ℤ, pos, negℤ, _+ℤ_, _*ℤ_}
 use lib.Signed.{_≤ℤ_, leZ}
 use lib.Dec.{lit<}
@@ -56,9 +56,13 @@ quotient f (suc k) = record { upper = f .upper; lower = f .lower * suc k; above-
 abbrev pub AtMost : Fraction → Fraction → Type 0
 AtMost f g = (f .upper *ℤ pos (g .lower)) ≤ℤ (g .upper *ℤ pos (f .lower))
 
+-- the test of that
+abbrev pub atMost : Fraction → Fraction → Bool
+atMost f g = leZ (f .upper *ℤ pos (g .lower)) (g .upper *ℤ pos (f .lower))
+
 -- the smaller of two
 unfoldable pub least : Fraction → Fraction → Fraction
-least f g = cond (leZ (f .upper *ℤ pos (g .lower)) (g .upper *ℤ pos (f .lower))) f g
+least f g = cond (atMost f g) f g
 
 -- f and g lie at most l apart
 pub record Within (l f g : Fraction) : Type 0 where

@@ -9,6 +9,11 @@ pub data Each {A B C : Type 0} (R : A → B → C → Type 0) : List A → List 
   done : Each R [] [] []
   then : {a : A} {b : B} {c : C} {xs : List A} {ys : List B} {zs : List C} → R a b c → Each R xs ys zs → Each R (a ∷ xs) (b ∷ ys) (c ∷ zs)
 
+-- two lists likewise
+pub data Beside {A B : Type 0} (R : A → B → Type 0) : List A → List B → Type 0 where
+  none-beside : Beside R [] []
+  and-beside : {a : A} {b : B} {xs : List A} {ys : List B} → R a b → Beside R xs ys → Beside R (a ∷ xs) (b ∷ ys)
+
 -- those that pass a test, in their order
 unfoldable pub selected : {A : Type 0} → (test : A → Bool) → List A → List A
 selected test [] = []

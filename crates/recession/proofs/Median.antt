@@ -1,17 +1,18 @@
 -- The median by rising order is the value that the cumulative counts of the histogram find.
 -- Assumes nothing.
 use Prim.Native.Nat.{ℕ, zero, suc, _+_, _-_, _/_, _≤_}
-use mathlib.Core.Path.{_≡_, refl, sym, _∙_, ap}
+use mathlib.Core.Path.{_≡_, sym, _∙_, ap}
 use mathlib.Core.List.{List, [], _∷_}
 use native.Mathlib.Nat.{lt-of-not-le}
 use native.Mathlib.Decide.{decLe, ℕ-discrete}
 use native.Mathlib.Omega.{arith}
-use borrow.Author.Tests.{lt-ltb, le-ltb, eq-eqb, ne-eqb}
+use borrow.Author.Tests.{eq-eqb, ne-eqb}
 use lib.Dec.{leb}
 use lib.ListN.{length, getD, take}
 use lib.Seq.{take-all}
-use Rattle.numbers.specs.Order.{rising}
-use Rattle.numbers.proofs.Sorting.{All, none-left, and-all, rising-all, all-at, at-rank, below, below-smaller, below-not, by-smaller}
+use Rattle.numbers.specs.Order.{rising, below}
+use Rattle.numbers.proofs.Ranks.{all-smaller}
+use Rattle.numbers.proofs.Sorting.{All, rising-all, all-at, at-rank, below-end, below-smaller, below-not, by-smaller}
 use Rattle.recession.specs.Ratios.{median}
 use Rattle.recession.specs.Private.{howMany, total, AtRank}
 use Rattle.recession.proofs.Cumulative.{total-next}
@@ -20,28 +21,22 @@ pub median-at-most : {m : ℕ} {ratios : List ℕ} → All (λ r. r ≤ m) ratio
 unfolding median
 median-at-most {m} {ratios} a = rw (at-rank 0 ((length ratios + 1) / 2) (rising leb ratios)) (all-at {P = λ r. r ≤ m} 0 (omega arith) (rising-all leb a) _)
 
-pub below-all : {m : ℕ} {l : List ℕ} → All (λ r. r ≤ m) l → below (suc m) l ≡ length l
-unfolding below
-below-all none-left = refl
-below-all {m} (and-all {x = x} {l = l} h a) = below-smaller (suc m) x l (omega arith) ∙ ap suc (below-all a)
-
 pub below-nothing : (l : List ℕ) → below 0 l ≡ 0
-unfolding below
-below-nothing [] = refl
+below-nothing [] = below-end 0
 below-nothing (x ∷ l) = below-not 0 x l (omega arith) ∙ below-nothing l
 
 -- v itself is not below v, and is below v + 1
 pub below-next : (v : ℕ) (l : List ℕ) → below (suc v) l ≡ below v l + howMany v l
-unfolding below howMany
-below-next v [] = omega arith
+unfolding howMany
+below-next v [] = omega (arith, below-end v, below-end (suc v))
 below-next v (x ∷ l) =
     let rest = below-next v l in
     elim (ℕ-discrete x v) [
-      | yes e ↦ rw (lt-ltb x (suc v) (omega arith), le-ltb x v (omega arith), eq-eqb x v e) (omega arith)
+      | yes e ↦ rw (eq-eqb x v e) (omega (arith, below-smaller (suc v) x l (omega arith), below-not v x l (omega arith)))
       | no n ↦
           elim (decLe v x) [
-            | yes h ↦ rw (le-ltb x (suc v) (omega arith), le-ltb x v h, ne-eqb x v n) (omega arith)
-            | no h ↦ let g = lt-of-not-le h in rw (lt-ltb x (suc v) (omega arith), lt-ltb x v g, ne-eqb x v n) (omega arith)
+            | yes h ↦ rw (ne-eqb x v n) (omega (arith, below-not (suc v) x l (omega arith), below-not v x l h))
+            | no h ↦ let g = lt-of-not-le h in rw (ne-eqb x v n) (omega (arith, below-smaller (suc v) x l (omega arith), below-smaller v x l g))
           ]
     ]
 
@@ -52,7 +47,7 @@ module _ (counts ratios : List ℕ) (each : (v : ℕ) → getD counts v 0 ≡ ho
   total-below (suc v) h = omega (arith, total-next counts v h, total-below v (omega arith), each v, below-next v ratios)
 
   pub total-all : {m : ℕ} → length counts ≡ suc m → All (λ r. r ≤ m) ratios → total counts ≡ length ratios
-  total-all {m} size a = ap total (sym (take-all (suc m) counts (omega arith))) ∙ total-below (suc m) (omega arith) ∙ below-all a
+  total-all {m} size a = ap total (sym (take-all (suc m) counts (omega arith))) ∙ total-below (suc m) (omega arith) ∙ all-smaller m a
 
   module _ (size : length counts ≡ 10001) where
     pub median-found : {r : ℕ} → AtRank counts ((length ratios + 1) / 2) r → r ≡ median ratios

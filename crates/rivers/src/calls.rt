@@ -76,6 +76,25 @@ pub fn line_and_totals(block_days: u32, factor: u32, days: &[u32], base: &mut [u
     totals(days, base);
 }
 
+pub fn staggered(
+    block_days: u32,
+    factor: u32,
+    choice: u32,
+    days: &[u32],
+    base: &mut [u64],
+    work: &mut [u64],
+) {
+    show::named(b"staggered", block_days as u64);
+    show::number(factor as u64);
+    show::number(choice as u64);
+    let setting = LineSetting { block_days, factor };
+    let verdict = staggered::staggered(setting, choice, days, &mut *base, &mut *work);
+    show::verdict(verdict);
+    show::base_list(base);
+    show::text(b"work");
+    show::base_list(work);
+}
+
 pub fn bfimax(last_day: u32, duration: u32, p: u32, days: &[u32], base: &mut [u64]) {
     show::named(b"bfimax", last_day as u64);
     show::number(duration as u64);

@@ -45,6 +45,18 @@ fn lines(days: &[u32], base: &mut [u64]) {
     calls::line_and_totals(30, 9500, days, base);
 }
 
+fn all_staggered(days: &[u32], base: &mut [u64]) {
+    let mut work = [0u64; 54785];
+    calls::staggered(5, 9000, 1, days, base, &mut work);
+    calls::staggered(5, 9000, 2, days, base, &mut work);
+    calls::staggered(5, 9000, 3, days, base, &mut work);
+}
+
+fn two_staggered(days: &[u32], base: &mut [u64]) {
+    let mut work = [0u64; 73050];
+    calls::staggered(2, 9000, 3, days, base, &mut work);
+}
+
 fn limbs(limb_days: u32, days: &[u32], base: &[u64]) {
     let mut limbs = [0u32; 8192];
     calls::ratios(limb_days, days, base, &mut limbs);
@@ -72,7 +84,8 @@ fn spells(days: &[u32], base: &mut [u64]) {
     calls::bfimax(29, 30, 9999, days, base);
 }
 
-// Thirty years of days through every method and number of passes, the daily step, the line, the ratios and BFImax.
+// Thirty years of days through every method and number of passes, the daily step, the line, the staggered lines, the ratios
+// and BFImax.
 fn thirty_years(seed: u32, gaps: u32) {
     let mut days = [0u32; 10957];
     let mut base = [0u64; 10957];
@@ -82,6 +95,7 @@ fn thirty_years(seed: u32, gaps: u32) {
     all_methods(&days, &mut base);
     all_steps(&days);
     lines(&days, &mut base);
+    all_staggered(&days, &mut base);
     limbs_at_base(&days, &mut base);
     spells(&days, &mut base);
 }
@@ -104,6 +118,7 @@ fn full_record() {
     calls::filter_and_totals(calls::plain(1, 9250, 0), 3, &days, &mut base);
     calls::line_and_totals(5, 9000, &days, &mut base);
     limbs(2, &days, &base);
+    two_staggered(&days, &mut base);
     calls::bfimax(36_524, 3650, 9780, &days, &mut base);
 }
 
@@ -121,6 +136,7 @@ fn main() {
     refusals::of_steps();
     refusals::of_values();
     refusals::of_spells();
+    refusals::of_staggered();
     published::recession_constants();
     published::base_flow_indices();
     published::minima_line();

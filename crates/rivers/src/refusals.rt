@@ -101,3 +101,20 @@ pub fn of_spells() {
     calls::bfimax(2, 2, 9500, &days, &mut base);
     calls::bfimax(2, 3, 9500, &days, &mut base);
 }
+
+// 16, 17, 9, 14, 25, 10.
+pub fn of_staggered() {
+    let days = [5u32, 4, 6];
+    let long = [1u32; 36526];
+    let mut base = [7u64; 3];
+    let mut short = [7u64; 1];
+    let mut work = [7u64; 6];
+    calls::staggered(31, 9000, 1, &days, &mut base, &mut work);
+    calls::staggered(2, 9000, 0, &days, &mut base, &mut work);
+    calls::staggered(2, 9000, 4, &days, &mut base, &mut work);
+    calls::staggered(2, 9000, 1, &days, &mut base, &mut work);
+    calls::staggered(2, 9000, 1, &long, &mut base, &mut work);
+    calls::staggered(2, 9000, 1, &days, &mut short, &mut work);
+    calls::staggered(1, 9000, 1, &days, &mut base, &mut work);
+    calls::staggered(2, 9000, 1, &[5, 10_000_001, 6], &mut base, &mut work);
+}

@@ -5,7 +5,7 @@ use mathlib.Core.Bool.{Bool, cond}
 use mathlib.Core.List.{List, [], _∷_}
 use mathlib.Core.Option.{Option, none, some, orElse}
 use Rattle.series.specs.declared.Refusal.{Refusal}
-use Rattle.series.specs.declared.Refusal.the-variants.{Truncated, UnknownKind, MisplacedHead, ValueOutOfRange, TooManyDays, DayListTooShort, WrongEndCount, BytesAfterEnd, DayListTooLong, InvalidDay, UnknownMethod, ParameterOutOfRange, InvalidPasses, LengthsDiffer, InvalidState, LineSettingOutOfRange, NoLine, LimbDaysOutOfRange, NoRatio, InvalidBase, NoFlow, LimbListTooShort, DurationOutOfRange, InvalidSpell}
+use Rattle.series.specs.declared.Refusal.the-variants.{Truncated, UnknownKind, MisplacedHead, ValueOutOfRange, TooManyDays, DayListTooShort, WrongEndCount, BytesAfterEnd, DayListTooLong, InvalidDay, UnknownMethod, ParameterOutOfRange, InvalidPasses, LengthsDiffer, InvalidState, LineSettingOutOfRange, NoLine, LimbDaysOutOfRange, NoRatio, InvalidBase, NoFlow, LimbListTooShort, DurationOutOfRange, InvalidSpell, WorkListLength}
 use Rattle.series.specs.declared.Verdict.{Verdict}
 use Rattle.series.specs.declared.Verdict.the-variants.{Accepted, Refused}
 
@@ -35,6 +35,7 @@ refusalNumber NoFlow = 21
 refusalNumber LimbListTooShort = 22
 refusalNumber DurationOutOfRange = 23
 refusalNumber InvalidSpell = 24
+refusalNumber WorkListLength = 25
 
 -- the number of a verdict's refusal, or none where it accepts
 abbrev pub refusalOf : Verdict → Option ℕ

@@ -47,7 +47,7 @@ pub enum Refusal {
     LengthsDiffer,
     // 15: a state whose flow is above 10,000,000, or whose base is above 1000 × that flow
     InvalidState,
-    // 16: block length N or factor g out of range
+    // 16: block length N, factor g or choice out of range
     LineSettingOutOfRange,
     // 17: no segment with two or more turning points
     NoLine,
@@ -65,6 +65,8 @@ pub enum Refusal {
     DurationOutOfRange,
     // 24: a last day outside the list, or a missing day or none on one of the D days
     InvalidSpell,
+    // 25: a work list that is not N times as long as the day list
+    WorkListLength,
 }
 
 impl Refusal {
@@ -97,6 +99,7 @@ impl Refusal {
             Refusal::LimbListTooShort => 22,
             Refusal::DurationOutOfRange => 23,
             Refusal::InvalidSpell => 24,
+            Refusal::WorkListLength => 25,
         }
     }
 }

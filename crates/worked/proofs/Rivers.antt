@@ -21,7 +21,7 @@ use Rattle.filter.specs.declared.Setting.{Setting}
 use Rattle.filter.specs.Methods.{methodOf, weights, start, spans, inRange, unknownMethod, outOfRange, invalidPasses}
 use Rattle.numbers.specs.Scan.{recursive}
 use Rattle.numbers.specs.Lists.{selected}
-use Rattle.numbers.specs.Order.{insertRising, rising, atRank}
+use Rattle.numbers.specs.Order.{insertRising, rising, atRank, ranked}
 use Rattle.filter.specs.Passes.{step, thousandths, filtered}
 use Rattle.filter.specs.Call.{filterCauses}
 use Rattle.filter.specs.Distance.{limitOf, filterLimit}
@@ -30,6 +30,7 @@ use Rattle.minima.specs.declared.LineSetting.{LineSetting}
 use Rattle.minima.specs.Call.{blocksOf, outOfRange as lineRange, hasTwo, anyOf, noLine, lineCauses}
 use Rattle.minima.specs.TurningPoints.{turns, middleTurns, counting, turningPoints, neighbours}
 use Rattle.minima.specs.Line.{straight, between as betweenPoints, lineOn, line, lineOver}
+use Rattle.staggered.specs.Rule.{lines, present, rankOf, chosen, staggered}
 use Rattle.totals.specs.Sums.{baseDays, flowTotal, baseTotal, index}
 use Rattle.totals.specs.declared.Totals.{Totals}
 use Rattle.totals.specs.Call.{noFlow, totalsCauses, totalsOutcome}
@@ -198,6 +199,38 @@ ratio-checks =
     ∷ answers 32 9801 (ratioOutcome 2 storms (map (λ y. 1000 * y) storms) (0 ∷ 0 ∷ 0 ∷ 0 ∷ 0 ∷ 0 ∷ []))
     ∷ []
 
-rivers : every (filter-checks ++ line-checks ++ dry-checks ++ ratio-checks) ≡ true
-unfolding filter-checks line-checks dry-checks ratio-checks
+-- two lines of N 2 that differ, and what each choice takes of them
+abbrev unlike : List (Option ℕ)
+unlike = map some (18 ∷ 16 ∷ 12 ∷ 12 ∷ 14 ∷ 11 ∷ 14 ∷ 13 ∷ 15 ∷ [])
+
+abbrev two : LineSetting
+two = record { «block_days» = 2; factor = 9000 }
+
+abbrev chosenBy : (choice : ℕ) → List (Option ℕ)
+chosenBy choice = staggered rounded two choice unlike
+
+abbrev sameLines : List (List (Option ℕ)) → List (List (Option ℕ)) → Bool
+sameLines [] [] = true
+sameLines [] (y ∷ ys) = false
+sameLines (x ∷ xs) [] = false
+sameLines (x ∷ xs) (y ∷ ys) = same x y && sameLines xs ys
+
+staggered-checks : List Bool
+unfolding staggered lines chosen present rankOf ranked atRank rising insertRising counting blockStart blockCount block lowest earliest minimumFlow minimumDay turns middleTurns selected turningPoints neighbours straight betweenPoints lineOn line lineOver overSegments parts near
+staggered-checks =
+    -- N 1: each choice is the line
+    same (staggered rounded line-setting 1 river) (lineOver rounded (blocksOf line-setting) river)
+    ∷ same (staggered rounded line-setting 2 river) (lineOver rounded (blocksOf line-setting) river)
+    ∷ same (staggered rounded line-setting 3 river) (lineOver rounded (blocksOf line-setting) river)
+    -- N 2, g 9000: the line of shift 0 from day 2 to day 5, that of shift 1 from day 3 to day 5
+    ∷ sameLines (lines rounded two unlike)
+    ((none ∷ none ∷ some 12000 ∷ some 11667 ∷ some 11333 ∷ some 11000 ∷ none ∷ none ∷ none ∷ [])
+    ∷ (none ∷ none ∷ none ∷ some 12000 ∷ some 11500 ∷ some 11000 ∷ none ∷ none ∷ none ∷ []) ∷ [])
+    ∷ same (chosenBy 1) (none ∷ none ∷ some 12000 ∷ some 11667 ∷ some 11333 ∷ some 11000 ∷ none ∷ none ∷ none ∷ [])
+    ∷ same (chosenBy 2) (none ∷ none ∷ some 12000 ∷ some 12000 ∷ some 11500 ∷ some 11000 ∷ none ∷ none ∷ none ∷ [])
+    ∷ same (chosenBy 3) (none ∷ none ∷ some 12000 ∷ some 11667 ∷ some 11333 ∷ some 11000 ∷ none ∷ none ∷ none ∷ [])
+    ∷ []
+
+rivers : every (filter-checks ++ line-checks ++ dry-checks ++ ratio-checks ++ staggered-checks) ≡ true
+unfolding filter-checks line-checks dry-checks ratio-checks staggered-checks
 rivers = refl

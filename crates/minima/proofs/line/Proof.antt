@@ -22,7 +22,7 @@ entry c = c .before .before .before .before
 
 -- the first segment with a line, by the setting
 first-lined : (c : tie.After-next-lined) → NextLined (blocksOf (entry c .args .setting)) (now (entry c .args .days)) 0 (c .next-lined .result)
-first-lined c = subst (λ B. NextLined B (now (entry c .args .days)) 0 (c .next-lined .result)) (c .before .blocks-of .ensures) (c .next-lined .ensures)
+first-lined c = subst (λ B. NextLined B (now (entry c .args .days)) 0 (c .next-lined .result)) (c .before .blocks-at .ensures) (c .next-lined .ensures)
 
 returns : tie.Need-returns
 unfolding lineLeaves
@@ -41,7 +41,7 @@ returns-2 c =
     let t = c .before .before .before .before in
     let k = t .before .before in
     let n = sought k in
-    call-accepted (k .check .ensures) _ _ (t .enum-told .given .1) (c .before .before .draw .ensures ∙ ap (λ B. lineList B (now (entry n .args .days))) (n .before .blocks-of .ensures))
+    call-accepted (k .check .ensures) _ _ (t .enum-told .given .1) (c .before .before .draw .ensures ∙ ap (λ B. lineList B (now (entry n .args .days))) (n .before .blocks-at .ensures))
 
 pub line-spec : {M : Type 1} → statement M
 line-spec =
