@@ -17,7 +17,7 @@ enum { RUNS = 25, RUN_NANOSECONDS = 4000000, STACK = 1 << 18, PAINT = 0xc3, SIZE
 static const uint32_t sizes[SIZES] = {1000, 10000, MOST};
 
 enum input { FLOWS, GAPS, MIXED, LATE, SUMMERS, LENGTHS, TWOS };
-enum call { READ, FILTER, STEP, LINE, TOTALS, RECESSION, BFIMAX, STAGGERED };
+enum call { READ, FILTER, STEP, LINE, TOTALS, RECESSION, BFIMAX, STAGGERED, HALF_LIFE };
 
 static const struct job {
     const char *name;
@@ -54,6 +54,7 @@ static const struct job {
     {"recession, all lengths", RECESSION, LENGTHS, 2, 0, 0, 0, 0},
     {"recession, 18,000 limbs", RECESSION, TWOS, 2, 0, 0, 0, 0},
     {"recession, from the line", RECESSION, GAPS, 2, 5, 9000, 0, 0},
+    {"half-life, a call for a day", HALF_LIFE, FLOWS, 0, 0, 0, 0, 0},
     {"bfimax, D 365", BFIMAX, FLOWS, 365, 9700, 0, 0, 0},
     {"bfimax, D 3650 or all", BFIMAX, FLOWS, 3650, 9700, 0, 0, 0},
 };
@@ -199,6 +200,10 @@ static uintptr_t stack_before;
             break;                                                                                                     \
         case LINE:                                                                                                     \
             (r)->answer = prefix##line((job)->first, (job)->p, days, count, (r)->base, count);                         \
+            break;                                                                                                     \
+        case HALF_LIFE:                                                                                                \
+            for (uint32_t t = 0; t < count; t++)                                                                       \
+                (r)->answer |= prefix##half_life(1 + t % 999, &(r)->days[t]);                                          \
             break;                                                                                                     \
         case STAGGERED:                                                                                                \
             (r)->answer = prefix##staggered((job)->first, (job)->p, (job)->q, days, count, (r)->base, count,           \

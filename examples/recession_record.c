@@ -1,5 +1,6 @@
 // Reads a record and finds the river's own recession constant: from the days on which the smoothed-minima line meets the
-// flow, so that no storm water enters. With it as p it separates base flow by method 5 and prints the index.
+// flow, so that no storm water enters. It prints the half-life that it stands for, and with it as p separates base flow by
+// method 5 and prints the index.
 //
 //     gcc -std=c11 -Iinclude examples/recession_record.c target/staticlib/libbaseflow.a -o target/recession_record
 //     target/recession_record [RECORD]
@@ -30,6 +31,15 @@ int main(int argc, char **argv)
     if (refused(program, "baseflow_recession", answer))
         return 1;
     printf("%" PRIu32 " ratios of days at base, p 0.%04" PRIu32 "\n", ratio_count, ratio);
+
+    uint32_t fewest, most; // the ratio lies between two thousandths, and so does its half-life
+    answer = baseflow_half_life(ratio / 10, &fewest);
+    if (refused(program, "baseflow_half_life", answer))
+        return 1;
+    answer = baseflow_half_life((ratio + 9) / 10, &most);
+    if (refused(program, "baseflow_half_life", answer))
+        return 1;
+    printf("half is left after %" PRIu32 " to %" PRIu32 " days\n", fewest, most);
 
     answer = baseflow_filter(BASEFLOW_ECKHARDT, ratio, BFIMAX, 0, 1, days, n, base, n); // 12 where ratio is no parameter
     if (refused(program, "baseflow_filter", answer))

@@ -10,7 +10,7 @@
  *   flow        litres a second, whole, 0 to 10,000,000
  *   base flow   thousandths of a litre a second; a flow of y litres is 1000 * y of them
  *   parameters, factor, index, ratio and BFImax
- *               ten-thousandths: 9250 is 0.925
+ *               ten-thousandths: 9250 is 0.925; only p of a half-life is in thousandths
  *   day list    uint32_t a day: its flow, or BASEFLOW_MISSING
  *   base list   uint64_t a day: its base flow, or BASEFLOW_NO_VALUE
  *   place       a day's position in a list, counted from 0
@@ -36,8 +36,8 @@
  *   - No allocation, no input or output, no exit, no panic. Of the C library only memset is needed. No floating point,
  *     but vector registers may be used, as by any code for x86-64.
  *   - Every call ends, after a time that grows linearly with the lengths that it is given.
- *   - Stack, as bench/run measures it: baseflow_recession keeps three arrays of counters and needs 147 KiB, all others
- *     stay below 1 KiB.
+ *   - Stack, as bench/run measures it: baseflow_recession keeps three arrays of counters and needs 147 KiB,
+ *     baseflow_half_life lays out its table and needs 2 KiB, all others stay below 1 KiB.
  */
 #ifndef BASEFLOW_H
 #define BASEFLOW_H
@@ -216,6 +216,20 @@ uint32_t baseflow_recession(uint32_t limb_days, const uint32_t *days, size_t day
  */
 uint32_t baseflow_bfimax(uint32_t last_day, uint32_t duration, uint32_t p, const uint32_t *days, size_t days_len,
                          uint64_t *base, size_t base_len, uint32_t *bfimax);
+
+/*
+ * Days until half is left, of a flow that keeps p thousandths (1 to 999) of itself from each day to the next: the least
+ * n of at least 1 with 2 * p^n at most 1000^n.
+ *
+ * Refuses: 12.
+ * On 0: *days is n, 1 to 693.
+ * A recession ratio is in ten-thousandths. Rounded down and up to thousandths it gives two half-lives, and the river's
+ * lies between them: ratio 9849 lies between p 984 and 985, so half is left after 43 to 46 days. The closer p is to
+ * 1000, the more a thousandth is worth: from 998 to 999 it is 347 and 693 days.
+ *   baseflow_half_life(ratio / 10, &fewest);
+ *   baseflow_half_life((ratio + 9) / 10, &most);
+ */
+uint32_t baseflow_half_life(uint32_t p, uint32_t *days);
 
 #ifdef __cplusplus
 }

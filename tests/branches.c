@@ -213,6 +213,14 @@
     X(STAGGERED_ODD, "staggered", "accepted, median of an odd number of unlike values")                                \
     X(STAGGERED_SHORT_STRETCH, "staggered", "accepted, a stretch shorter than a shift")                                \
     X(STAGGERED_MOST_DAYS, "staggered", "accepted, 36,525 days")                                                       \
+    X(HALF_LIFE_12_LOW, "half_life", "refused 12, p 0")                                                                \
+    X(HALF_LIFE_12_HIGH, "half_life", "refused 12, p 1000 or more")                                                    \
+    X(HALF_LIFE_ONE, "half_life", "accepted, one day")                                                                 \
+    X(HALF_LIFE_500, "half_life", "accepted, p 500")                                                                   \
+    X(HALF_LIFE_501, "half_life", "accepted, p 501")                                                                   \
+    X(HALF_LIFE_1, "half_life", "accepted, p 1")                                                                       \
+    X(HALF_LIFE_999, "half_life", "accepted, p 999")                                                                   \
+    X(HALF_LIFE_LONG, "half_life", "accepted, over 100 days")                                                          \
     X(RECESSION_18_LOW, "recession", "refused 18, L low")                                                              \
     X(RECESSION_18_HIGH, "recession", "refused 18, L high")                                                            \
     X(RECESSION_9, "recession", "refused 9")                                                                           \
@@ -805,6 +813,22 @@ static void count_totals(const struct test_case *c, uint32_t answer, const struc
     }
 }
 
+// ---- half-life
+
+static void count_half_life(const struct test_case *c, uint32_t answer, uint32_t days)
+{
+    if (answer != 0) {
+        hit(c->p == 0 ? HALF_LIFE_12_LOW : HALF_LIFE_12_HIGH);
+        return;
+    }
+    hit_if(days == 1, HALF_LIFE_ONE);
+    hit_if(c->p == 500, HALF_LIFE_500);
+    hit_if(c->p == 501, HALF_LIFE_501);
+    hit_if(c->p == 1, HALF_LIFE_1);
+    hit_if(c->p == 999, HALF_LIFE_999);
+    hit_if(days > 100, HALF_LIFE_LONG);
+}
+
 // ---- staggered lines
 
 // How many lines have a value on day t, and whether two of them differ there.
@@ -1235,6 +1259,9 @@ void count_branch(const struct test_case *c, uint32_t answer, const struct outs 
         break;
     case TOTALS:
         count_totals(c, answer, outs);
+        break;
+    case HALF_LIFE:
+        count_half_life(c, answer, outs->small[0]);
         break;
     case STAGGERED:
         count_staggered(c, answer, work);

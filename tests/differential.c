@@ -27,7 +27,7 @@ enum list { BYTES, DAYS, BASE, LIMBS, WORK, LISTS };
 enum { GUARD = 64, GUARD_BYTE = 0x5a };
 
 static const char *const call_names[CALLS] = {"read", "filter", "step", "steps", "line", "totals", "recession",
-                                             "bfimax", "staggered"};
+                                             "bfimax", "staggered", "half_life"};
 static const char *const list_names[LISTS] = {"bytes", "days", "base", "limbs", "work"};
 static const size_t widths[LISTS] = {1, 4, 8, 4, 8};
 static const size_t rooms[LISTS] = {ROOM_BYTES, ROOM_DAYS, ROOM_DAYS, ROOM_DAYS, ROOM_WORK};
@@ -87,6 +87,8 @@ static int may_write(enum call call, enum list list)
         case RECESSION:                                                                                                \
             return prefix##recession(c->limb_days, lists[DAYS], c->days_len, lists[BASE], c->base_len, lists[LIMBS],   \
                                      c->limbs_len, &small[0], &small[1]);                                              \
+        case HALF_LIFE:                                                                                                \
+            return prefix##half_life(c->p, &small[0]);                                                                 \
         case STAGGERED:                                                                                                \
             return prefix##staggered(c->block_days, c->factor, c->choice, lists[DAYS], c->days_len, lists[BASE],       \
                                      c->base_len, lists[WORK], c->work_len);                                           \
@@ -367,6 +369,8 @@ static void print_outs(enum call call, const struct outs *o)
                ", index %" PRIu32, o->small[0], o->large[0], o->large[1], o->large[2], o->small[1]);
     if (call == BFIMAX)
         printf(" bfimax %" PRIu32, o->small[0]);
+    if (call == HALF_LIFE)
+        printf(" days %" PRIu32, o->small[0]);
     if (call == RECESSION)
         printf(" ratio_count %" PRIu32 ", ratio %" PRIu32, o->small[0], o->small[1]);
     putchar('\n');
@@ -380,6 +384,8 @@ static void print_arguments(const struct test_case *c)
         printf("  passes %" PRIu32 "\n", c->passes);
     if (c->call == STEP)
         printf("  day %" PRIu32 "\n", c->day);
+    if (c->call == HALF_LIFE)
+        printf("  p %" PRIu32 "\n", c->p);
     if (c->call == STAGGERED)
         printf("  choice %" PRIu32 "\n", c->choice);
     if (c->call == LINE || c->call == STAGGERED)

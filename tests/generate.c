@@ -669,12 +669,17 @@ static void make_read(struct test_case *c)
         c->days[t] = (uint32_t)draw();
 }
 
+static void make_half_life(struct test_case *c)
+{
+    c->p = spoil() ? AMONG(0, 1000, 1001, MISSING, 65536 + 500) : one_in(4) ? AMONG(1, 499, 500, 501, 998, 999) : between(1, 999);
+}
+
 void generate(struct test_case *c, uint64_t seed, uint64_t number)
 {
     static void (*const make[CALLS])(struct test_case *) = {
         [READ] = make_read,     [FILTER] = make_filter, [STEP] = make_step,           [STEPS] = make_steps,
         [LINE] = make_line,     [TOTALS] = make_totals, [RECESSION] = make_recession, [BFIMAX] = make_bfimax,
-        [STAGGERED] = make_staggered,
+        [STAGGERED] = make_staggered, [HALF_LIFE] = make_half_life,
     };
     state = seed << 40 ^ number;
     state = draw();
@@ -684,15 +689,16 @@ void generate(struct test_case *c, uint64_t seed, uint64_t number)
         c->outs.large[i] = draw();
     }
     rough = one_in(5);
-    uint32_t turn = below(25);
-    c->call = turn < 6    ? READ
-              : turn < 10 ? FILTER
-              : turn < 12 ? STEP
-              : turn < 13 ? STEPS
-              : turn < 15 ? LINE
-              : turn < 17 ? TOTALS
-              : turn < 20 ? RECESSION
-              : turn < 23 ? BFIMAX
-                          : STAGGERED;
+    uint32_t turn = below(100);
+    c->call = turn < 24   ? READ
+              : turn < 40 ? FILTER
+              : turn < 48 ? STEP
+              : turn < 52 ? STEPS
+              : turn < 60 ? LINE
+              : turn < 68 ? TOTALS
+              : turn < 80 ? RECESSION
+              : turn < 91 ? BFIMAX
+              : turn < 99 ? STAGGERED
+                          : HALF_LIFE;
     make[c->call](c);
 }

@@ -118,6 +118,11 @@ class Engine:
                   limbs, size(days), ctypes.byref(count), ctypes.byref(ratio))
         return count.value, ratio.value, [pair for pair in zip(limbs[::2], limbs[1::2]) if pair != (0, 0)]
 
+    def half_life(self, p):
+        days = ctypes.c_uint32()
+        self.call("half_life", ctypes.c_uint32(p), ctypes.byref(days))
+        return days.value
+
     def bfimax(self, last_day, duration, p, days):
         """BFImax and the base list."""
         base, answer = listed(ctypes.c_uint64, [0] * len(days)), ctypes.c_uint32()

@@ -312,6 +312,12 @@ def refusals():
     assert seen == {str(n) for n in range(1, 26)}, seen
 
 
+def half_lives():
+    for p in (0, 1, 500, 501, 900, 990, 999, 1000):
+        result = rules.half_life(p)
+        out.append(words('half-life', p) + (answer(result, '') if isinstance(result, Refusal) else words(': days', result)))
+
+
 def published():
     for constant in (9730, 9800, 9500, 9770, 9780, 9160, 9450, 8990):
         days = fall(20, constant)
@@ -342,6 +348,7 @@ def main():
         thirty_years(seed, gaps)
     full_record()
     refusals()
+    half_lives()
     published()
     if sys.argv[1:2] != ['check']:
         print('\n'.join(out))

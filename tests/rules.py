@@ -216,6 +216,17 @@ def totals(days, base):
     return Refusal(21) if Y == 0 else (len(counted), Y, T, 1000 * Y - T, near(10 * T, Y))
 
 
+# "Half-life": 15.1
+def half_life(p):
+    """The least n of at least 1 with 2 x p^n at most 1000^n."""
+    if not 1 <= p <= 999:
+        return Refusal(12)
+    n = 1
+    while 2 * p**n > 1000**n:
+        n += 1
+    return n
+
+
 # "Recession ratios": 6.1 to 6.6
 def whole_flows(days):
     """A base list with every present day at base."""

@@ -16,6 +16,7 @@ ghost use Rattle.staggered.specs.Call.{staggeredCauses, baseLeaves, workLeaves}
 ghost use Rattle.totals.specs.Call.{totalsOutcome};
 ghost use Rattle.bfimax.specs.Call.{spellOf, bfimaxOutcome, bfimaxLeaves};
 ghost use Rattle.recession.specs.Call.{ratioOutcome, ratioLeaves};
+ghost use Rattle.half_life.specs.Call.{halfLifeOutcome};
 ghost use Rattle.baseflow.specs.Interface.{returned, returnedCause, handedOut, settingOf, lineSettingOf, stateOf, stateNumbers, valueOut, stateOut};
 
 // 0 for an accepted call, else the number of its refusal.
@@ -178,6 +179,22 @@ pub extern "C" fn baseflow_recession(
         recession::Answer::Ratios { count, median } => {
             *ratio_count = count;
             *ratio = median;
+            0
+        }
+    }
+}
+
+// Days until half is left, for p in thousandths.
+#[no_mangle]
+pub extern "C" fn baseflow_half_life(p: u32, days: &mut u32) -> u32
+    ensures { λ r. ⌜ r ≡ returned (halfLifeOutcome p) ⌝ }
+    ensures { λ _. ⌜ now (days .exit) ≡ handedOut (λ n. n) (halfLifeOutcome p) (now (days .entry)) ⌝ }
+{
+    let answer = half_life::half_life(p);
+    match answer {
+        half_life::Answer::Refused(refusal) => refusal.number(),
+        half_life::Answer::Days(n) => {
+            *days = n;
             0
         }
     }

@@ -107,6 +107,16 @@ pub fn bfimax(last_day: u32, duration: u32, p: u32, days: &[u32], base: &mut [u6
     show::base_list(base);
 }
 
+pub fn half_life(p: u32) {
+    show::named(b"half-life", p as u64);
+    let answer = half_life::half_life(p);
+    match answer {
+        half_life::Answer::Refused(refusal) => show::refusal(refusal),
+        half_life::Answer::Days(n) => show::named(b": days", n as u64),
+    }
+    show::end_of_line();
+}
+
 pub fn ratios(limb_days: u32, days: &[u32], base: &[u64], limbs: &mut [u32]) {
     show::named(b"ratios", limb_days as u64);
     let answer = recession::ratios(limb_days, days, base, limbs);

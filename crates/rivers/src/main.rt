@@ -122,6 +122,18 @@ fn full_record() {
     calls::bfimax(36_524, 3650, 9780, &days, &mut base);
 }
 
+// Half-lives at both ends of the range, beside it, and where a half is met exactly.
+fn half_lives() {
+    calls::half_life(0);
+    calls::half_life(1);
+    calls::half_life(500);
+    calls::half_life(501);
+    calls::half_life(900);
+    calls::half_life(990);
+    calls::half_life(999);
+    calls::half_life(1000);
+}
+
 fn main() {
     thirty_years(1, river::NO_GAPS);
     thirty_years(2, river::GAP_AT_START);
@@ -137,6 +149,7 @@ fn main() {
     refusals::of_values();
     refusals::of_spells();
     refusals::of_staggered();
+    half_lives();
     published::recession_constants();
     published::base_flow_indices();
     published::minima_line();

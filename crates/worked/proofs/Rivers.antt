@@ -31,6 +31,8 @@ use Rattle.minima.specs.Call.{blocksOf, outOfRange as lineRange, hasTwo, anyOf,
 use Rattle.minima.specs.TurningPoints.{turns, middleTurns, counting, turningPoints, neighbours}
 use Rattle.minima.specs.Line.{straight, between as betweenPoints, lineOn, line, lineOver}
 use Rattle.staggered.specs.Rule.{lines, present, rankOf, chosen, staggered}
+use Rattle.half_life.specs.Rule.{isHalved, firstFrom, halfLife}
+use Rattle.half_life.specs.Call.{halfLifeCauses, halfLifeOutcome}
 use Rattle.totals.specs.Sums.{baseDays, flowTotal, baseTotal, index}
 use Rattle.totals.specs.declared.Totals.{Totals}
 use Rattle.totals.specs.Call.{noFlow, totalsCauses, totalsOutcome}
@@ -231,6 +233,22 @@ staggered-checks =
     ∷ same (chosenBy 3) (none ∷ none ∷ some 12000 ∷ some 11667 ∷ some 11333 ∷ some 11000 ∷ none ∷ none ∷ none ∷ [])
     ∷ []
 
-rivers : every (filter-checks ++ line-checks ++ dry-checks ++ ratio-checks ++ staggered-checks) ≡ true
-unfolding filter-checks line-checks dry-checks ratio-checks staggered-checks
+-- a half-life of n days, and p out of range
+abbrev halvesAfter : (n : ℕ) → Outcome ℕ → Bool
+halvesAfter n (accepted m) = eqb n m
+halvesAfter n (refused m) = false
+
+abbrev noHalfLife : Outcome ℕ → Bool
+noHalfLife (accepted m) = false
+noHalfLife (refused m) = eqb m 12
+
+half-life-checks : List Bool
+unfolding halfLifeOutcome halfLifeCauses within halfLife firstFrom isHalved
+half-life-checks =
+    halvesAfter 1 (halfLifeOutcome 500) ∷ halvesAfter 2 (halfLifeOutcome 501) ∷ halvesAfter 7 (halfLifeOutcome 900)
+    ∷ halvesAfter 69 (halfLifeOutcome 990) ∷ halvesAfter 693 (halfLifeOutcome 999) ∷ halvesAfter 1 (halfLifeOutcome 1)
+    ∷ noHalfLife (halfLifeOutcome 0) ∷ noHalfLife (halfLifeOutcome 1000) ∷ []
+
+rivers : every (filter-checks ++ line-checks ++ dry-checks ++ ratio-checks ++ staggered-checks ++ half-life-checks) ≡ true
+unfolding filter-checks line-checks dry-checks ratio-checks staggered-checks half-life-checks
 rivers = refl

@@ -1,0 +1,4 @@
+mod Sentences
+mod Examples
+mod Halving
+mod Calls
