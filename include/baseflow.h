@@ -2,9 +2,9 @@
  * baseflow.h - base flow engine of a sealed river gauging box
  *
  * Base flow is the part of a river's flow that groundwater feeds. From a record of daily flows the engine reads the
- * days, separates base flow by a recursive filter or by the smoothed-minima line, totals it, finds recession ratios,
- * and estimates BFImax from the river itself. Link with target/staticlib/libbaseflow.a, which `rt staticlib baseflow`
- * makes (x86-64).
+ * days, separates base flow by a recursive filter or by the smoothed-minima line, totals it, finds recession ratios and
+ * half-lives, and estimates BFImax from the river itself. Link with target/staticlib/libbaseflow.a, which
+ * `rt staticlib baseflow` makes (x86-64).
  *
  * Units
  *   flow        litres a second, whole, 0 to 10,000,000
@@ -164,7 +164,8 @@ uint32_t baseflow_line(uint32_t block_days, uint32_t factor, const uint32_t *day
  * lower); a day on which none has one has no value.
  *
  * Refuses: 16, 9, 14, 25, 10, 17. 16 covers the choice, and 17 comes where no shift has a line.
- * On 0: all of `base` is written, and `work` holds the lines one behind the other, that of shift o from o * days_len on.
+ * On 0: all of `base` is written, and `work` holds the lines one behind the other, that of shift o from place
+ * o * days_len on.
  * Lend a base list exactly as long as the day list, and a work list block_days times as long.
  */
 uint32_t baseflow_staggered(uint32_t block_days, uint32_t factor, uint32_t choice, const uint32_t *days,

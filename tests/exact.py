@@ -180,7 +180,8 @@ def measure(engine, setting, first, stated, shares):
 def staggered_cases():
     rng = random.Random(2026)
     for name, river in rivers(rng):
-        for block_days, factor in ((1, 9000), (2, 9000), (5, 9000), (7, 9999), (30, 9500), (rng.randrange(1, 31), rng.randrange(1, 10000))):
+        any_line = rng.randrange(1, 31), rng.randrange(1, 10000)
+        for block_days, factor in ((1, 9000), (2, 9000), (5, 9000), (7, 9999), (30, 9500), any_line):
             yield name, block_days, factor, river
     for _ in range(300):
         river = [rng.choice((None, *(rng.randrange(rng.choice((4, 100, 10_000_001))) for _ in range(12))))
@@ -282,7 +283,8 @@ def worked_rivers(engine):
     flows = [10, 8, 10, 20, 9, 30]
     falling = [100, 90, 81, 72]
     unlike = [18, 16, 12, 12, 14, 11, 14, 13, 15]
-    stretches = [14, 14, 14, 17, 11, 19, 12, 19, 12, 11, 17, 12, 10, None, 15, None, 5, 10, 19, 6, 5, 13, 9, 5, 13, 11, 7, 12]
+    stretches = [14, 14, 14, 17, 11, 19, 12, 19, 12, 11, 17, 12, 10, None, 15, None, 5, 10, 19, 6, 5, 13, 9, 5, 13, 11, 7,
+                 12]
     dry_block = [12, 11, 10, 13, 14] + [0] * 5 + [15, 10, 12, 11, 13, 9, 8, 8, 9, 10, 10, 12, 13, 14, 15]
     return [
         ("method 1", engine.filter(1, 9250, 0, 0, 1, [100, 200]), [50000, 57500]),
@@ -318,7 +320,8 @@ def worked_rivers(engine):
         ("staggered, a stretch shorter than its shift", engine.staggered(3, 9000, 2, stretches)[0],
          [None] * 4 + [11000, 11500, 12000, 11000, 11000, 11000] + [None] * 10 + [5000] * 4 + [None] * 4),
         ("staggered, no line", refused(engine.staggered, 2, 9000, 1, [5, 4, 6])[0], 17),
-        ("staggered, choice 0 and 4", [refused(engine.staggered, 2, 9000, choice, flows)[0] for choice in (0, 4)], [16, 16]),
+        ("staggered, choice 0 and 4", [refused(engine.staggered, 2, 9000, choice, flows)[0] for choice in (0, 4)],
+         [16, 16]),
         ("two dry blocks alone", refused(engine.line, 1, 9000, [0, 0])[0], 17),
         ("L 3", ratios(3, [100, 90, 81]), (2, 9000, [(0, 3)])),
         ("L 4", refused(ratios, 4, [100, 90, 81])[0], 19),
@@ -332,7 +335,8 @@ def worked_rivers(engine):
          (1, 8889, [(2, 2)])),
         ("half-lives", [engine.half_life(p) for p in (500, 501, 900, 990, 999, 1)], [1, 2, 7, 69, 693, 1]),
         ("half-lives, p 0 and 1000", [refused(engine.half_life, p)[0] for p in (0, 1000)], [12, 12]),
-        ("half-lives of every p", [engine.half_life(p) for p in range(1, 1000)], [rules.half_life(p) for p in range(1, 1000)]),
+        ("half-lives of every p", [engine.half_life(p) for p in range(1, 1000)],
+         [rules.half_life(p) for p in range(1, 1000)]),
         ("BFImax, held to the flow in the middle", engine.bfimax(4, 5, 9000, [30, 12, 10, 20, 9]),
          (6476, [12346, 11111, 10000, 10000, 9000])),
         ("BFImax, never held to the flow", engine.bfimax(4, 4, 9500, [7, 100, 80, 50, 30, None]),
@@ -383,7 +387,8 @@ def main():
             sys.exit(f"river '{name}', staggered lines with N {block_days}, g {factor}: {wrong}")
     lines = [f"exact: {runs} runs through the C interface lie within their limits; the largest share of each:"]
     lines += [f"  {figure}: {float(share):.3f}" for figure, share in sorted(shares.reached.items())]
-    lines.append(f"exact: {bfimax_runs} further runs, of BFImax, and {staggered_runs}, of staggered lines, lie within theirs")
+    lines.append(f"exact: {bfimax_runs} further runs, of BFImax, and {staggered_runs}, of staggered lines, lie within "
+                 "theirs")
     (products() / "exact.txt").write_text("\n".join(lines) + "\n")
     print("\n".join(lines))
 

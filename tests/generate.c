@@ -277,8 +277,8 @@ static void make_line(struct test_case *c)
     fill_base(c);
 }
 
-// Rivers whose lines differ from shift to shift: short blocks with few turning points, stretches of every length around N,
-// and lists in which only one shift, or none, has a line.
+// Rivers whose lines differ from shift to shift: short blocks with few turning points, stretches of every length around
+// N, and lists in which only one shift, or none, has a line.
 static void fill_stretches(struct test_case *c)
 {
     uint32_t style = below(3), limit = AMONG(3, 10, 1000);
@@ -671,7 +671,9 @@ static void make_read(struct test_case *c)
 
 static void make_half_life(struct test_case *c)
 {
-    c->p = spoil() ? AMONG(0, 1000, 1001, MISSING, 65536 + 500) : one_in(4) ? AMONG(1, 499, 500, 501, 998, 999) : between(1, 999);
+    c->p = spoil()     ? AMONG(0, 1000, 1001, MISSING, 65536 + 500)
+           : one_in(4) ? AMONG(1, 499, 500, 501, 998, 999)
+                       : between(1, 999);
 }
 
 void generate(struct test_case *c, uint64_t seed, uint64_t number)

@@ -172,7 +172,8 @@ def no_line(block_days, factor, days):
 # "Staggered blocks": 14.1 to 14.4
 def lines_over(over, block_days, factor, days):
     """The lines of all shifts over a day list."""
-    return [over_stretches(lambda flows, o=o: line_over(over, block_days, factor, flows, o), days) for o in range(block_days)]
+    return [over_stretches(lambda flows, o=o: line_over(over, block_days, factor, flows, o), days)
+            for o in range(block_days)]
 
 
 def chosen(choice, lines):

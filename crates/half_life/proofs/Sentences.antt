@@ -2,7 +2,8 @@
 -- Assumes nothing.
 use Prim.Native.Nat.{ℕ, _*_, _^_, _≤_}
 use mathlib.Core.Path.{_≡_}
-use native.Mathlib.Nat.{pow-le-pow-left, mul-le-mul-left, le-trans}
+use native.Mathlib.Nat.{pow-le-pow-left, mul-le-mul-left, le-trans, lt-irrefl, lt-of-le-of-lt, lt-of-not-le}
+use native.Mathlib.Decide.{decLe}
 use native.Mathlib.Omega.{arith}
 use borrow.Author.Tests.{leb-true, le-leb}
 use lib.Dec.{leb→le}
@@ -21,3 +22,12 @@ half-life-sentence p h =
 -- And no other number is: the sentence settles it.
 pub no-other : (p n : ℕ) → p ≤ 999 → HalfLife p n → n ≡ halfLife p
 no-other p n h l = one-first (as-first l) (as-first (half-life-sentence p h))
+
+-- The largest is that of p 999: 693 days.
+pub at-most-693 : (p : ℕ) → p ≤ 999 → halfLife p ≤ 693
+at-most-693 p h =
+    let halved : 2 * p ^ 693 ≤ 1000 ^ 693 = le-trans (mul-le-mul-left 2 (pow-le-pow-left h 693)) (leb→le (2 * 999 ^ 693) (1000 ^ 693) tt) in
+    elim (decLe (halfLife p) 693) [
+      | yes l ↦ l
+      | no l ↦ absurd (lt-irrefl _ (lt-of-le-of-lt halved (half-life-sentence p h .not-before 693 (omega arith) (lt-of-not-le l))))
+    ]
