@@ -1,5 +1,7 @@
 // From the bytes of a record to its base flow, totals and index, over lists that the caller lends: one run of the calls,
 // one after the other, which carries document 01's demand 3 as a promise.
+#![tactic(auto)]
+
 ghost use Rattle.std.specs.Prelude.{◌≡◌, length};
 ghost use Rattle.series.specs.Causes.{refusal_of, first_cause, leaves};
 ghost use Rattle.accuracy.specs.Choosing.{chosen_causes, base_list};
@@ -11,14 +13,14 @@ use minima::LineSetting;
 use series::{Refusal, Verdict};
 
 // How base flow is to be found.
-#[derive(Drop)]
+#[derive(Clone, Copy)]
 pub enum Choice {
     Filter { setting: Setting, passes: u32 },
     Line(LineSetting),
 }
 
 // What base flow came to: its refusal, and then the base list is as it was; or what the totals over it came to.
-#[derive(Drop)]
+#[derive(Clone, Copy)]
 pub enum BaseFlow {
     Refused(Refusal),
     Found(totals::Answer),
@@ -26,7 +28,7 @@ pub enum BaseFlow {
 
 // What each stage of a run came to. Where reading refused, both lists are as they were. Where it accepted, the day list
 // holds the days that it read, whatever base flow then came to.
-#[derive(Drop)]
+#[derive(Clone, Copy)]
 pub enum Separation {
     ReadingRefused(Refusal),
     Days {

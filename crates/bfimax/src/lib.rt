@@ -1,5 +1,7 @@
 // BFImax, the q of method 5, from a dry spell of the river itself (docs/RULES.md, "BFImax"): base flow by a filter that runs
 // backwards from the spell's last day, and its share of the flow.
+#![tactic(auto)]
+
 ghost use Rattle.std.specs.Prelude.{◌≡◌, ◌*◌, ◌≤◌, ◌<◌, min, length, replicate};
 ghost use Rattle.numbers.specs.Near.{near};
 ghost use Rattle.numbers.specs.Arithmetic.{rounded};
@@ -19,7 +21,7 @@ pub const MOST_DURATION: u32 = 3650;
 pub const MOST_P: u32 = 9999;
 
 // What the call comes to.
-#[derive(Drop)]
+#[derive(Clone, Copy)]
 pub enum Answer {
     // BFImax in ten-thousandths. (0 and 10000 are no q of method 5.)
     Found(u32),

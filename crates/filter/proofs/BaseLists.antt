@@ -20,7 +20,7 @@ use Rattle.filter.specs.Private.{first_run, forward_run, backward_run}
 use Rattle.filter.proofs.Table.{two_passes, passes_range}
 use Rattle.filter.proofs.Calls.{one_pass}
 use Rattle.filter.proofs.Distance.{filter_distance}
-use Rattle.filter.proofs.GapRuns.{first_run_lem, forward_run, backward_run}
+use Rattle.filter.proofs.GapRuns.{first_run_lem, forward_run_lem, backward_run_lem}
 
 module _ {s : Setting} (u : Usable s) (days : List ℕ) (valid : any_invalid_day days ≡ false) where
   after : (n : ℕ) → invalid_passes s n ≡ false → Shown (filtered rounded s n (map day_of days))
@@ -29,13 +29,13 @@ module _ {s : Setting} (u : Usable s) (days : List ℕ) (valid : any_invalid_day
   second : backward_run (weights s) (filtered_list s 1 days) ≡ filtered_list s 2 days
   unfolding filtered_list filtered backward_pass forward_pass
   second =
-      backward_run (weights s) (filtered rounded s 1 (map day_of days)) (after 1 (one_pass s))
+      backward_run_lem (weights s) (filtered rounded s 1 (map day_of days)) (after 1 (one_pass s))
       ∙ ap (map base_mark) (over_then (first_pass rounded s (start rounded s)) (λ us. map some (backward_pass rounded s us)) (map day_of days))
 
   third : invalid_passes s 3 ≡ false → forward_run (weights s) (filtered_list s 2 days) ≡ filtered_list s 3 days
   unfolding filtered_list filtered forward_pass
   third v =
-      forward_run (weights s) (filtered rounded s 2 (map day_of days)) (after 2 (two_passes s v))
+      forward_run_lem (weights s) (filtered rounded s 2 (map day_of days)) (after 2 (two_passes s v))
       ∙ ap (map base_mark) (over_then (λ flows. backward_pass rounded s (first_pass rounded s (start rounded s) flows)) (λ us. map some (forward_pass rounded s us)) (map day_of days))
 
   -- b₁, b₂ and b₃ as the loops leave them, n being the number of passes

@@ -17,7 +17,7 @@ use Rattle.numbers.proofs.Recursion.{together}
 use Rattle.series.specs.Agreement.{Agree, no_value, values}
 use Rattle.series.proofs.Gaps.{over_each}
 use Rattle.filter.specs.declared.Setting.{Setting}
-use Rattle.filter.specs.Methods.{Method, lyne_hollick, chapman-1991, chapman-maxwell, boughton, eckhardt, tularam-ilahee, jakeman-hornberger, method_of, weights, method_start, start, invalid_passes, Usable}
+use Rattle.filter.specs.Methods.{Method, lyne_hollick, chapman_1991, chapman_maxwell, boughton, eckhardt, tularam_ilahee, jakeman_hornberger, method_of, weights, method_start, start, invalid_passes, Usable}
 use Rattle.filter.specs.Passes.{step, thousandths, later_day, first_pass, forward_pass, backward_pass, passes, filtered}
 use Rattle.filter.specs.Distance.{limit_of, filter_limit}
 use Rattle.filter.proofs.Table.{row, start_below, passes_range, Mean, passes_mean}
@@ -64,7 +64,7 @@ each_same [] = done
 each_same (y ∷ ys) = then same (each_same ys)
 
 -- one segment, from any start that lies at or below the flow and within the limit of pass 1
-module _ {s : Setting} (u : Usable s) (first : ℕ → ℕ) (first̂ : ℕ → Fraction) (first_below : (y : ℕ) → first y ≤ 1000 * y) (first-close : (y : ℕ) → Close (filter_limit s 1) (first y) (first̂ y)) where
+module _ {s : Setting} (u : Usable s) (first : ℕ → ℕ) (first̂ : ℕ → Fraction) (first_below : (y : ℕ) → first y ≤ 1000 * y) (first_close : (y : ℕ) → Close (filter_limit s 1) (first y) (first̂ y)) where
   abbrev w : Weights
   w = weights s
 
@@ -77,17 +77,17 @@ module _ {s : Setting} (u : Usable s) (first : ℕ → ℕ) (first̂ : ℕ → F
 
   first_day : {y u û : ℕ} → Same y u û → After 1 y (first u) (first̂ û)
   unfolding filter_limit
-  first_day (same {y}) = (first_below y, first-close y)
+  first_day (same {y}) = (first_below y, first_close y)
 
-  later_day : {x y v u v̂ û : ℕ} (f : ℕ) (f̂ : Fraction) → After 1 x f f̂ → Same x v v̂ → Same y u û → After 1 y (later_day rounded s f u v) (later_day exact s f̂ û v̂)
+  later_day_lem : {x y v u v̂ û : ℕ} (f : ℕ) (f̂ : Fraction) → After 1 x f f̂ → Same x v v̂ → Same y u û → After 1 y (later_day rounded s f u v) (later_day exact s f̂ û v̂)
   unfolding step thousandths
-  later_day f f̂ o (same {y = x}) (same {y}) =
+  later_day_lem f f̂ o (same {y = x}) (same {y}) =
       (min-le_left (1000 * y) _, close_step w below 0 (omega arith) o.1 (close_exact (1000 * y) (reads_limit w below 0)) (close_exact (1000 * x) (reads_limit w below 0)))
 
   after_first : (flows : List ℕ) → Each (After 1) flows (first_pass rounded s first flows) (first_pass exact s first̂ flows)
   unfolding first_pass
   after_first flows =
-      together Same (After 1) first first̂ (later_day rounded s) (later_day exact s) (λ y u û i. first_day i) (λ x y f f̂ v u v̂ û o i j. later_day f f̂ o i j) (each_same flows)
+      together Same (After 1) first first̂ (later_day rounded s) (later_day exact s) (λ y u û i. first_day i) (λ x y f f̂ v u v̂ û o i j. later_day_lem f f̂ o i j) (each_same flows)
 
   -- passes 2 and 3 take pass k's limit to pass k + 1's
   after_forward : (k : ℕ) → Mean w k → {flows us : List ℕ} {ûs : List Fraction} → Each (After k) flows us ûs → Each (After (suc k)) flows (forward_pass rounded s us) (forward_pass exact s ûs)
@@ -129,12 +129,12 @@ module _ {s : Setting} (u : Usable s) where
   method_start_close : (m : Method) (y : ℕ) → Close (filter_limit s 1) (method_start rounded m s y) (method_start exact m s y)
   unfolding method_start
   method_start_close lyne_hollick y = close_exact (500 * y) (reads_filter_limit 1)
-  method_start_close chapman-1991 y = close_exact (500 * y) (reads_filter_limit 1)
-  method_start_close chapman-maxwell y = close_exact (500 * y) (reads_filter_limit 1)
+  method_start_close chapman_1991 y = close_exact (500 * y) (reads_filter_limit 1)
+  method_start_close chapman_maxwell y = close_exact (500 * y) (reads_filter_limit 1)
   method_start_close boughton y = close_exact (500 * y) (reads_filter_limit 1)
   method_start_close eckhardt y = close_weaken (at_most reads_half (reads_filter_limit 1) (omega (arith, (row u).below))) (close_near (9 * s.q * y) 100)
-  method_start_close tularam-ilahee y = close_exact (500 * y) (reads_filter_limit 1)
-  method_start_close jakeman-hornberger y = close_exact (500 * y) (reads_filter_limit 1)
+  method_start_close tularam_ilahee y = close_exact (500 * y) (reads_filter_limit 1)
+  method_start_close jakeman_hornberger y = close_exact (500 * y) (reads_filter_limit 1)
 
   start_close : (y : ℕ) → Close (filter_limit s 1) (start rounded s y) (start exact s y)
   unfolding start

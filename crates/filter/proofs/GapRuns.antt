@@ -61,13 +61,13 @@ module _ (w : Weights) where
   unfolding previous_after output_on
   pass_run base = run_alone (λ u. u) (step rounded w) previous_of (output w) (previous_after w) (output_on w) output_is (λ st. refl) (λ st u. refl) (λ st. refl) (λ st u. refl) base_of base_mark Nothing refl base
 
-  pub forward_run : (values : List (Option ℕ)) → Shown values → forward_run w (map base_mark values) ≡ map base_mark (over_segments pass values)
+  pub forward_run_lem : (values : List (Option ℕ)) → Shown values → forward_run w (map base_mark values) ≡ map base_mark (over_segments pass values)
   unfolding forward_run
-  forward_run values h = pass_run (map base_mark values) ∙ ap (λ v. map base_mark (over_segments pass v)) h
+  forward_run_lem values h = pass_run (map base_mark values) ∙ ap (λ v. map base_mark (over_segments pass v)) h
 
-  pub backward_run : (values : List (Option ℕ)) → Shown values → backward_run w (map base_mark values) ≡ map base_mark (over_segments (λ s. map some (reverse (recursive (λ u. u) (step rounded w) (reverse s)))) values)
+  pub backward_run_lem : (values : List (Option ℕ)) → Shown values → backward_run w (map base_mark values) ≡ map base_mark (over_segments (λ s. map some (reverse (recursive (λ u. u) (step rounded w) (reverse s)))) values)
   unfolding backward_run
-  backward_run values h =
+  backward_run_lem values h =
       ap reverse (pass_run (reverse (map base_mark values)) ∙ ap (λ l. map base_mark (over_segments pass l)) (sym (map_reverse base_of (map base_mark values) []) ∙ ap reverse h))
       ∙ map_reverse base_mark (over_segments pass (reverse values)) []
       ∙ ap (map base_mark) (ap reverse (over_reverse pass values) ∙ reverse-reverse _ ∙ ap (λ rule. over_segments rule values) (fun_ext (λ s. map_reverse some (recursive (λ u. u) (step rounded w) (reverse s)) [])))

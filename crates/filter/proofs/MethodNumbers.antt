@@ -16,7 +16,7 @@ use Rattle.numbers.proofs.Whole.{up_of_multiple, down_of_multiple}
 use Rattle.numbers.proofs.Signs.{up_by_sign, down_by_sign}
 use Rattle.numbers.proofs.Quantities.{weighted_rounded}
 use Rattle.filter.specs.declared.Setting.{Setting}
-use Rattle.filter.specs.Methods.{Method, lyne_hollick, chapman-1991, chapman-maxwell, boughton, eckhardt, tularam-ilahee, jakeman-hornberger, method_of, method_weights, weights, method_range, method_span, spans, in_range, method_start, start, out_of_range, Usable}
+use Rattle.filter.specs.Methods.{Method, lyne_hollick, chapman_1991, chapman_maxwell, boughton, eckhardt, tularam_ilahee, jakeman_hornberger, method_of, method_weights, weights, method_range, method_span, spans, in_range, method_start, start, out_of_range, Usable}
 use Rattle.filter.specs.Passes.{step}
 use Rattle.filter.specs.declared.method.Coefficients.{Coefficients}
 use Rattle.filter.specs.Private.{weights_of, Moderate, Small, dividend}
@@ -31,7 +31,7 @@ and_false true = refl
 and_false false = refl
 
 -- a number that is none of 1 to 5 and not 7 is read as 6
-pub other_method : (m : ℕ) → (m ≡ 1 → ⊥) → (m ≡ 2 → ⊥) → (m ≡ 3 → ⊥) → (m ≡ 4 → ⊥) → (m ≡ 5 → ⊥) → (m ≡ 7 → ⊥) → method_of m ≡ tularam-ilahee
+pub other_method : (m : ℕ) → (m ≡ 1 → ⊥) → (m ≡ 2 → ⊥) → (m ≡ 3 → ⊥) → (m ≡ 4 → ⊥) → (m ≡ 5 → ⊥) → (m ≡ 7 → ⊥) → method_of m ≡ tularam_ilahee
 unfolding method_of
 other_method m h₁ h₂ h₃ h₄ h₅ h₇ = simp (ne_eqb m 1 h₁, ne_eqb m 2 h₂, ne_eqb m 3 h₃, ne_eqb m 4 h₄, ne_eqb m 5 h₅, ne_eqb m 7 h₇)
 
@@ -48,7 +48,7 @@ span_other : (m : ℕ) → (m ≡ 7 → ⊥) → 0 ≡ method_span (method_of m)
 unfolding method_of method_span
 span_other m h = simp (ne_eqb m 7 h) (pick (eqb m 1) (eqb m 2) (eqb m 3) (eqb m 4) (eqb m 5))
   where
-    pick : (a b c d e : Bool) → 0 ≡ method_span (cond a lyne_hollick (cond b chapman-1991 (cond c chapman-maxwell (cond d boughton (cond e eckhardt tularam-ilahee)))))
+    pick : (a b c d e : Bool) → 0 ≡ method_span (cond a lyne_hollick (cond b chapman_1991 (cond c chapman_maxwell (cond d boughton (cond e eckhardt tularam_ilahee)))))
     pick true b c d e = refl
     pick false true c d e = refl
     pick false false true d e = refl
@@ -107,17 +107,17 @@ module _ (s : Setting) {n : ℕ} {t : Bool} (e : n ≡ up s.s + down s.s) (f : t
   abbrev signed_row : Weights
   signed_row = record { A = 10000 * s.p; B = 10000 * s.q; C = cond t 0 (n * s.q); E = cond t (n * s.q) 0; d = 10000 * (10000 + s.q) }
 
-  same_row : signed_row ≡ method_weights jakeman-hornberger s
+  same_row : signed_row ≡ method_weights jakeman_hornberger s
   unfolding method_weights
   same_row =
       ap₂ (λ c k. record { A = 10000 * s.p; B = 10000 * s.q; C = c; E = k; d = 10000 * (10000 + s.q) })
       (ap₂ (λ b k. cond b 0 (k * s.q)) f e ∙ up_by_sign s.s s.q ∙ sym (up_of_multiple s.s s.q))
       (ap₂ (λ b k. cond b (k * s.q) 0) f e ∙ down_by_sign s.s s.q ∙ sym (down_of_multiple s.s s.q))
 
-  pub row_7 : Usable s → method_of s.method ≡ jakeman-hornberger → (signed_row ≡ weights s) × Moderate signed_row
+  pub row_7 : Usable s → method_of s.method ≡ jakeman_hornberger → (signed_row ≡ weights s) × Moderate signed_row
   row_7 u m = let r = row_at u m in (same_row ∙ r.0, subst Moderate (sym same_row) r.1)
 
-pub signed_product : (s : Setting) (n : ℕ) → n ≡ up s.s + down s.s → Usable s → method_of s.method ≡ jakeman-hornberger → n * s.q ≤ 200000000
+pub signed_product : (s : Setting) (n : ℕ) → n ≡ up s.s + down s.s → Usable s → method_of s.method ≡ jakeman_hornberger → n * s.q ≤ 200000000
 signed_product s n e u m = let l = limits_at u m in let small : n ≤ 19998 = omega (arith, e, l) in omega (arith, mul-le-mul small l.3)
 
 -- the usual start, in method 5 and in all others
@@ -130,7 +130,7 @@ module _ (s : Setting) (y : ℕ) where
   unfolding start method_of
   start_other h = simp (ne_eqb s.method 5 h) (pick (eqb s.method 1) (eqb s.method 2) (eqb s.method 3) (eqb s.method 4) (eqb s.method 7))
     where
-      pick : (a b c d e : Bool) → method_start rounded (cond a lyne_hollick (cond b chapman-1991 (cond c chapman-maxwell (cond d boughton (cond e jakeman-hornberger tularam-ilahee))))) s y ≡ 500 * y
+      pick : (a b c d e : Bool) → method_start rounded (cond a lyne_hollick (cond b chapman_1991 (cond c chapman_maxwell (cond d boughton (cond e jakeman_hornberger tularam_ilahee))))) s y ≡ 500 * y
       pick true b c d e = refl
       pick false true c d e = refl
       pick false false true d e = refl
@@ -160,9 +160,9 @@ module _ (w : Coefficients) where
     sum_raised e h = h ∙ omega arith ∙ ap (λ t. dividend (signed t) f u v) (sym e)
 
 -- the rounded mean, and what is held to u of it
-module _ (w : Weights) (f u v : ℕ) {n h : ℕ} (Near-of : (a loss : ℕ) → h ≡ a + w.d / 2 - loss → n ≡ near (a - loss) w.d) (sum : h ≡ dividend w f u v) where
+module _ (w : Weights) (f u v : ℕ) {n h : ℕ} (near_of : (a loss : ℕ) → h ≡ a + w.d / 2 - loss → n ≡ near (a - loss) w.d) (sum : h ≡ dividend w f u v) where
   mean : n ≡ weighted rounded w f u v
-  mean = Near-of (w.A * f + w.B * u + w.C * v) (w.E * v) sum ∙ sym (weighted_rounded w f u v)
+  mean = near_of (w.A * f + w.B * u + w.C * v) (w.E * v) sum ∙ sym (weighted_rounded w f u v)
 
   pub step_capped : u < n → u ≡ step rounded w f u v
   unfolding step

@@ -16,18 +16,18 @@ use Rattle.numbers.specs.Arithmetic.{Weights, rounded}
 use Rattle.numbers.proofs.Whole.{up_of_multiple, down_of_multiple}
 use Rattle.numbers.proofs.Rounding.{near_at_most}
 use Rattle.filter.specs.declared.Setting.{Setting}
-use Rattle.filter.specs.Methods.{Method, lyne_hollick, chapman-1991, chapman-maxwell, boughton, eckhardt, tularam-ilahee, jakeman-hornberger, method_of, method_weights, weights, method_range, method_span, spans, in_range, method_start, start, out_of_range, invalid_passes, Usable}
+use Rattle.filter.specs.Methods.{Method, lyne_hollick, chapman_1991, chapman_maxwell, boughton, eckhardt, tularam_ilahee, jakeman_hornberger, method_of, method_weights, weights, method_range, method_span, spans, in_range, method_start, start, out_of_range, invalid_passes, Usable}
 use Rattle.filter.specs.Private.{Moderate}
 
 -- the ranges of a row as inequalities
 abbrev pub MethodLimits : Method → Setting → Type 0
 MethodLimits lyne_hollick s = (1 ≤ s.p) × (s.p ≤ 9999) × (s.q ≡ 0)
-MethodLimits chapman-1991 s = (3334 ≤ s.p) × (s.p ≤ 9999) × (s.q ≡ 0)
-MethodLimits chapman-maxwell s = (1 ≤ s.p) × (s.p ≤ 9999) × (s.q ≡ 0)
+MethodLimits chapman_1991 s = (3334 ≤ s.p) × (s.p ≤ 9999) × (s.q ≡ 0)
+MethodLimits chapman_maxwell s = (1 ≤ s.p) × (s.p ≤ 9999) × (s.q ≡ 0)
 MethodLimits boughton s = (1 ≤ s.p) × (s.p ≤ 9999) × (1 ≤ s.q) × (s.q ≤ 10000)
 MethodLimits eckhardt s = (1 ≤ s.p) × (s.p ≤ 9999) × (1 ≤ s.q) × (s.q ≤ 9999)
-MethodLimits tularam-ilahee s = (1 ≤ s.p) × (s.p ≤ 9999) × (s.q ≡ 0)
-MethodLimits jakeman-hornberger s = (1 ≤ s.p) × (s.p ≤ 9999) × (1 ≤ s.q) × (s.q ≤ 10000) × (up s.s ≤ 9999) × (down s.s ≤ 9999)
+MethodLimits tularam_ilahee s = (1 ≤ s.p) × (s.p ≤ 9999) × (s.q ≡ 0)
+MethodLimits jakeman_hornberger s = (1 ≤ s.p) × (s.p ≤ 9999) × (1 ≤ s.q) × (s.q ≤ 10000) × (up s.s ≤ 9999) × (down s.s ≤ 9999)
 
 abbrev pub Limits : Setting → Type 0
 Limits s = MethodLimits (method_of s.method) s
@@ -45,12 +45,12 @@ two_parameters high p q e =
 method_limits : (m : Method) (s : Setting) → method_range m s ≡ true → spans (method_span m) s.s ≡ true → MethodLimits m s
 unfolding method_range method_span spans
 method_limits lyne_hollick s e f = one_parameter 1 s.p s.q e
-method_limits chapman-1991 s e f = one_parameter 3334 s.p s.q e
-method_limits chapman-maxwell s e f = one_parameter 1 s.p s.q e
+method_limits chapman_1991 s e f = one_parameter 3334 s.p s.q e
+method_limits chapman_maxwell s e f = one_parameter 1 s.p s.q e
 method_limits boughton s e f = two_parameters 10000 s.p s.q e
 method_limits eckhardt s e f = two_parameters 9999 s.p s.q e
-method_limits tularam-ilahee s e f = one_parameter 1 s.p s.q e
-method_limits jakeman-hornberger s e f =
+method_limits tularam_ilahee s e f = one_parameter 1 s.p s.q e
+method_limits jakeman_hornberger s e f =
     let l = two_parameters 10000 s.p s.q e in
     let h = both_of _ _ f in
     (l.0, l.1, l.2, l.3, leb-true (up s.s) 9999 h.0, leb-true (down s.s) 9999 h.1)
@@ -62,12 +62,12 @@ limits {s} u = let h = both_of _ _ (not-false _ u.in_range) in method_limits (me
 -- p from 1 to 9999, whatever the row
 method_p : (m : Method) (s : Setting) → MethodLimits m s → (1 ≤ s.p) × (s.p ≤ 9999)
 method_p lyne_hollick s l = (l.0, l.1)
-method_p chapman-1991 s l = (omega arith, l.1)
-method_p chapman-maxwell s l = (l.0, l.1)
+method_p chapman_1991 s l = (omega arith, l.1)
+method_p chapman_maxwell s l = (l.0, l.1)
 method_p boughton s l = (l.0, l.1)
 method_p eckhardt s l = (l.0, l.1)
-method_p tularam-ilahee s l = (l.0, l.1)
-method_p jakeman-hornberger s l = (l.0, l.1)
+method_p tularam_ilahee s l = (l.0, l.1)
+method_p jakeman_hornberger s l = (l.0, l.1)
 
 pub p_range : {s : Setting} → Usable s → (1 ≤ s.p) × (s.p ≤ 9999)
 p_range {s} u = method_p (method_of s.method) s (limits u)
@@ -91,12 +91,12 @@ eckhardt_products s l = products s.p s.q (10000 - s.p) (10000 - s.q) (omega arit
 method_row : (m : Method) (s : Setting) → MethodLimits m s → Row (method_weights m s)
 unfolding method_weights
 method_row lyne_hollick s l = record { below = omega arith; moderate = omega arith }
-method_row chapman-1991 s l = record { below = omega arith; moderate = omega arith }
-method_row chapman-maxwell s l = record { below = omega arith; moderate = omega arith }
+method_row chapman_1991 s l = record { below = omega arith; moderate = omega arith }
+method_row chapman_maxwell s l = record { below = omega arith; moderate = omega arith }
 method_row boughton s l = record { below = omega arith; moderate = omega arith }
 method_row eckhardt s l = let h = eckhardt_products s l in record { below = omega arith; moderate = omega arith }
-method_row tularam-ilahee s l = record { below = omega arith; moderate = omega arith }
-method_row jakeman-hornberger s l =
+method_row tularam_ilahee s l = record { below = omega arith; moderate = omega arith }
+method_row jakeman_hornberger s l =
     let c = mul-le-mul l.4 l.3 in
     let e = mul-le-mul l.5 l.3 in
     record { below = omega arith; moderate = record { a = omega arith; b = omega arith; c = omega (arith, up_of_multiple s.s s.q); e = omega (arith, down_of_multiple s.s s.q); d = omega arith; above = omega arith } }
@@ -110,12 +110,12 @@ row {s} u = method_row (method_of s.method) s (limits u)
 -- off at zero.
 abbrev pub Uncut : Method → (p q : ℕ) → Weights → Type 0
 Uncut lyne_hollick p q w = (w.A ≡ 2 * p) × (w.B + p ≡ 10000) × (w.C + p ≡ 10000) × (w.d ≡ 20000)
-Uncut chapman-1991 p q w = (w.A + 10000 ≡ 3 * p) × (w.B + p ≡ 10000) × (w.C + p ≡ 10000) × (w.d + p ≡ 30000)
-Uncut chapman-maxwell p q w = (w.A ≡ p) × (w.B + p ≡ 10000) × (w.C ≡ 0) × (w.d + p ≡ 20000)
+Uncut chapman_1991 p q w = (w.A + 10000 ≡ 3 * p) × (w.B + p ≡ 10000) × (w.C + p ≡ 10000) × (w.d + p ≡ 30000)
+Uncut chapman_maxwell p q w = (w.A ≡ p) × (w.B + p ≡ 10000) × (w.C ≡ 0) × (w.d + p ≡ 20000)
 Uncut boughton p q w = (w.A ≡ p) × (w.B ≡ q) × (w.C ≡ 0) × (w.d ≡ 10000 + q)
 Uncut eckhardt p q w = (w.A + p * q ≡ 10000 * p) × (w.B + p * q ≡ 10000 * q) × (w.C ≡ 0) × (w.d + p * q ≡ 100000000)
-Uncut tularam-ilahee p q w = (w.A ≡ p) × (w.B + p ≡ 10000) × (w.C ≡ 0) × (w.d ≡ 10000)
-Uncut jakeman-hornberger p q w = (w.A ≡ 10000 * p) × (w.B ≡ 10000 * q) × (w.d ≡ 10000 * (10000 + q))
+Uncut tularam_ilahee p q w = (w.A ≡ p) × (w.B + p ≡ 10000) × (w.C ≡ 0) × (w.d ≡ 10000)
+Uncut jakeman_hornberger p q w = (w.A ≡ 10000 * p) × (w.B ≡ 10000 * q) × (w.d ≡ 10000 * (10000 + q))
 
 -- n times a difference
 times_difference : (n p : ℕ) → p ≤ 10000 → n * (10000 - p) + n * p ≡ 10000 * n
@@ -126,14 +126,14 @@ times_difference n p h =
 method_uncut : (m : Method) (s : Setting) → MethodLimits m s → Uncut m s.p s.q (method_weights m s)
 unfolding method_weights
 method_uncut lyne_hollick s l = omega arith
-method_uncut chapman-1991 s l = omega arith
-method_uncut chapman-maxwell s l = omega arith
+method_uncut chapman_1991 s l = omega arith
+method_uncut chapman_maxwell s l = omega arith
 method_uncut boughton s l = omega arith
 method_uncut eckhardt s l =
     let h = eckhardt_products s l in
     (times_difference s.p s.q (omega arith), omega (arith, times_difference s.q s.p (omega arith)), refl, omega arith)
-method_uncut tularam-ilahee s l = omega arith
-method_uncut jakeman-hornberger s l = (refl, refl, refl)
+method_uncut tularam_ilahee s l = omega arith
+method_uncut jakeman_hornberger s l = (refl, refl, refl)
 
 pub no_difference_cut_off : {s : Setting} → Usable s → Uncut (method_of s.method) s.p s.q (weights s)
 unfolding weights
@@ -143,12 +143,12 @@ no_difference_cut_off {s} u = method_uncut (method_of s.method) s (limits u)
 method_start_below : (m : Method) (s : Setting) (y : ℕ) → MethodLimits m s → method_start rounded m s y ≤ 1000 * y
 unfolding method_start
 method_start_below lyne_hollick s y l = omega arith
-method_start_below chapman-1991 s y l = omega arith
-method_start_below chapman-maxwell s y l = omega arith
+method_start_below chapman_1991 s y l = omega arith
+method_start_below chapman_maxwell s y l = omega arith
 method_start_below boughton s y l = omega arith
 method_start_below eckhardt s y l = near_at_most (omega arith) (omega (arith, mul-le-mul_right y l.3))
-method_start_below tularam-ilahee s y l = omega arith
-method_start_below jakeman-hornberger s y l = omega arith
+method_start_below tularam_ilahee s y l = omega arith
+method_start_below jakeman_hornberger s y l = omega arith
 
 pub start_below : {s : Setting} → Usable s → (y : ℕ) → start rounded s y ≤ 1000 * y
 unfolding start

@@ -108,7 +108,7 @@ module _ (w : Weights) (base₀ : List ℕ) where
   unfolding backward_run
   backward_start h = record { same_length = refl; equal = back_start (pass_state w) (pass_mark w) 0 base₀ Nothing (length base₀) (omega arith); small_previous = tt; small = h }
 
-  turned : {whole so_far so-far' base : List ℕ} {pr pr' : Previous} (i : ℕ) {b : ℕ} → i < length base → LaterPass whole so_far base pr → so-far' ≡ so_far → SmallPrevious pr' × SmallBase b → LaterPass whole so-far' (set base i b) pr'
+  turned : {whole so_far so_far' base : List ℕ} {pr pr' : Previous} (i : ℕ) {b : ℕ} → i < length base → LaterPass whole so_far base pr → so_far' ≡ so_far → SmallPrevious pr' × SmallBase b → LaterPass whole so_far' (set base i b) pr'
   turned {base = base} i {b} h f e s =
       record { same_length = length-set base i b ∙ f.same_length; equal = e ∙ f.equal; small_previous = s.0; small = λ j. small_set base i b s.1 j h (λ n. f.small j) }
 

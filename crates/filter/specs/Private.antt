@@ -1,18 +1,18 @@
 -- What the private functions ask of their arguments, so that no sum overflows, and the passes as their loops run them,
 -- over the numbers of a list in memory. No public promise speaks of these: proofs/GapRuns.antt shows that the loops' runs
 -- are the passes of specs/Passes.antt.
-use Rattle.std.specs.Prelude.{ℕ, ◌+◌, ◌*◌, ◌-◌, ◌/◌, ◌≤◌, ◌<◌, ◌≡◌, cond, List, [], ◌∷◌, reverse, ◌⊎◌, get_or}
+use Rattle.std.specs.Prelude.{ℕ, ◌+◌, ◌*◌, ◌-◌, ◌/◌, ◌≤◌, ◌<◌, ◌≡◌, cond, List, reverse, ◌⊎◌, get_or}
 use Rattle.std.proofs.Math.Option.{Option, none, some}
 use Rattle.numbers.specs.Arithmetic.{rounded, Weights}
 use Rattle.numbers.specs.Scan.{scan}
-use Rattle.series.specs.Units.{no_value_mark, is_invalid_day, day_of, base_of, base_mark}
+use Rattle.series.specs.Units.{no_value_mark, day_of, base_of, base_mark}
 use Rattle.filter.specs.declared.Setting.{Setting}
 use Rattle.filter.specs.declared.DailyFilter.{DailyFilter}
 use Rattle.filter.specs.declared.method.Coefficients.{Coefficients}
 use Rattle.filter.specs.declared.pass.Previous.{Previous}
 use Rattle.filter.specs.declared.pass.Previous.TheVariants.{Nothing, Day}
 use Rattle.filter.specs.Passes.{step}
-use Rattle.filter.specs.Daily.{fresh, invalid_yesterday, base_on, state_after}
+use Rattle.filter.specs.Daily.{fresh, base_on, state_after}
 
 -- the weights that the code carries
 abbrev pub weights_of : Coefficients → Weights

@@ -12,7 +12,7 @@ use crate::{DailyFilter, Setting, Step, Yesterday, method};
 use series::Refusal;
 
 // A day's base value, and the state after it.
-#[derive(Drop)]
+#[derive(Clone, Copy)]
 pub struct Advanced {
     pub state: DailyFilter,
     pub base: u64,
@@ -119,7 +119,7 @@ pub(crate) fn advance(state: DailyFilter, setting: Setting, w: Coefficients, day
     requires w_value { (weights_of w ≡ weights setting) × Moderate (weights_of w) }
     requires yesterday_value { (invalid_yesterday state.yesterday ≡ false) × (is_invalid_day day ≡ false) }
     ensures state_value { (result.state ≡ day_state setting state day) × (result.base ≡ day_mark setting state day) }
-    ensures yesterday_value_2 { (invalid_yesterday result.state.yesterday ≡ false) × SmallBase result.base }
+    ensures next_yesterday { (invalid_yesterday result.state.yesterday ≡ false) × SmallBase result.base }
 {
     let yesterday = state.yesterday;
     match yesterday {

@@ -1,5 +1,7 @@
 // Base flow by seven recursive filters (document 01, "Filters"): the filter call over a day list, with up to three
 // passes, and the daily step.
+#![tactic(auto)]
+
 mod daily;
 mod method;
 mod pass;
@@ -12,7 +14,7 @@ use method::{invalid_passes, out_of_range, unknown_method};
 use series::{Refusal, Verdict, lengths_differ, refuse_if};
 
 // A filter's setting: the method's number and its parameters in ten-thousandths; q and s are 0 where the method has none.
-#[derive(Drop)]
+#[derive(Clone, Copy)]
 pub struct Setting {
     pub method: u32,
     pub p: u32,
@@ -21,21 +23,21 @@ pub struct Setting {
 }
 
 // What the daily filter knows of the day before: its flow in litres a second and its base in thousandths, or nothing.
-#[derive(Drop)]
+#[derive(Clone, Copy)]
 pub enum Yesterday {
     Unknown,
     Known { flow: u32, base: u64 },
 }
 
 // The state of the daily step.
-#[derive(Drop)]
+#[derive(Clone, Copy)]
 pub struct DailyFilter {
     pub yesterday: Yesterday,
 }
 
 // What a step answers: the next state with the day's base value, series::NO_VALUE on a missing day; or the refusal
 // with the state that was given.
-#[derive(Drop)]
+#[derive(Clone, Copy)]
 pub enum Step {
     Next {
         state: DailyFilter,

@@ -9,7 +9,7 @@ ghost use Rattle.filter.specs.Private.{weights_of, Moderate, Small, dividend};
 use crate::Setting;
 
 // The A, B, C and d of a setting. C is c, or -c where it lowers the sum.
-#[derive(Drop)]
+#[derive(Clone, Copy)]
 pub struct Coefficients {
     pub a: u64,
     pub b: u64,

@@ -9,14 +9,14 @@ use crate::method::Coefficients;
 use crate::{DailyFilter, Setting, daily, method};
 
 // The day that a pass looked at last: its u and its f, or nothing before a segment's first day.
-#[derive(Drop)]
+#[derive(Clone, Copy)]
 pub enum Previous {
     Nothing,
     Day { input: u64, output: u64 },
 }
 
 // A day's f, and what the next day sees of it.
-#[derive(Drop)]
+#[derive(Clone, Copy)]
 pub struct Passed {
     pub previous: Previous,
     pub base: u64,

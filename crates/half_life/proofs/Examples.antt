@@ -1,10 +1,9 @@
 -- Half-lives computed by the checker from the rule: the document's own, and both ends of the range.
 -- Assumes nothing.
-use Prim.Native.Nat.{ℕ}
 use mathlib.Core.Path.{◌≡◌, refl}
-use mathlib.Core.List.{List, [], ◌∷◌, map}
+use mathlib.Core.List.{[], ◌∷◌, map}
 use Rattle.series.specs.Units.{within}
-use Rattle.series.specs.Causes.{Outcome, accepted, refused}
+use Rattle.series.specs.Causes.{accepted, refused}
 use Rattle.half_life.specs.Rule.{is_halved, first_from, half_life}
 use Rattle.half_life.specs.Call.{half_life_causes, half_life_outcome}
 

@@ -1,5 +1,7 @@
 // Days until half is left (docs/RULES.md, "Half-life"): a river that keeps p thousandths of its flow from each day to the
 // next has, after so many days, at most half of it.
+#![tactic(auto)]
+
 mod table;
 
 ghost use Rattle.std.specs.Prelude.{◌≡◌, ◌≤◌};
@@ -15,7 +17,7 @@ pub const LEAST_P: u32 = 1;
 pub const MOST_P: u32 = 999;
 
 // What the call comes to.
-#[derive(Drop)]
+#[derive(Clone, Copy)]
 pub enum Answer {
     Days(u32),
     Refused(Refusal),

@@ -2,7 +2,7 @@
 -- Assumes nothing.
 use Prim.Native.Nat.{ℕ, suc, ◌+◌, ◌-◌, ◌≤◌, ◌<◌}
 use mathlib.Core.Path.{◌≡◌, refl, sym, ◌∙◌, ap, ap₂, subst}
-use mathlib.Core.Bool.{Bool, true, false, true≢false, not, ◌&&◌, ◌||◌, and_true, or-false}
+use mathlib.Core.Bool.{Bool, true, false, true≢false, not, ◌&&◌, ◌||◌, and-true, or-false}
 use mathlib.Core.List.Memᴰ
 use mathlib.Core.List.{List, [], ◌∷◌, ◌++◌, map, map-append, append-nil, Memᴰ}
 use mathlib.Core.Option.{Option, none, some}
@@ -134,7 +134,7 @@ module _ (B : Blocks) where
         | no n ↦ ap (no_line B) (before_gap days i e s (lt_of_not-le n)) ∙ no_line_gap (part i e days) _
         | yes l ↦
             let nothing : drop (e + 1) days ≡ [] = drop_of_length-le days {i = e + 1} (omega arith) in
-            ap (no_line B) (before_end days i e s l) ∙ no_line_end (part i e days) ∙ sym (rw (nothing, no_line_empty) (and_true (not (has_two B (part i e days)))))
+            ap (no_line B) (before_end days i e s l) ∙ no_line_end (part i e days) ∙ sym (rw (nothing, no_line_empty) (and-true (not (has_two B (part i e days)))))
       ]
 
   -- the line of all segments, from a segment's first day on, and from a missing day on

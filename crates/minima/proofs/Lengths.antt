@@ -57,9 +57,9 @@ module _ (S : Arithmetic) (B : Blocks) where
 
 -- the list in memory
 module _ (B : Blocks) (days : List ℕ) where
-  pub line_list : line_list B days ≡ map base_mark (line_over rounded B (map day_of days))
+  pub line_list_lem : line_list B days ≡ map base_mark (line_over rounded B (map day_of days))
   unfolding line_list
-  line_list = refl
+  line_list_lem = refl
 
   pub line_list_length : length (line_list B days) ≡ length days
-  line_list_length = ap length line_list ∙ length-map (line_over rounded B (map day_of days)) base_mark ∙ line_over_length rounded B (map day_of days) ∙ length-map days day_of
+  line_list_length = ap length line_list_lem ∙ length-map (line_over rounded B (map day_of days)) base_mark ∙ line_over_length rounded B (map day_of days) ∙ length-map days day_of

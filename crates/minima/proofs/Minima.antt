@@ -107,9 +107,9 @@ module _ (B : Blocks) (flows : List ℕ) (k : ℕ) where
         (omega (arith, f.0, s.inside, block_length), f.1)
 
     -- the flow on the minimum's day
-    pub minimum_flow : flow_on flows (minimum_day B flows k) ≡ minimum_flow B flows k
+    pub minimum_flow_lem : flow_on flows (minimum_day B flows k) ≡ minimum_flow B flows k
     unfolding minimum_day
-    minimum_flow = sym (block_flow at at_inside.0) ∙ at_inside.1
+    minimum_flow_lem = sym (block_flow at at_inside.0) ∙ at_inside.1
 
     -- a day of the block, by its position there
     flow_at : (t : ℕ) → start ≤ t → t < start + B.days → get_or days (t - start) 0 ≡ flow_on flows t
@@ -137,8 +137,8 @@ module _ (B : Blocks) (flows : List ℕ) (k : ℕ) where
         record {
           from = omega arith;
           to = omega (arith, at_inside.0);
-          lowest_flow = λ t h l. omega (arith, minimum_flow, lowest_flow t h l);
-          earliest_day = λ t h l. omega (arith, minimum_flow, earliest_day t h l);
+          lowest_flow = λ t h l. omega (arith, minimum_flow_lem, lowest_flow t h l);
+          earliest_day = λ t h l. omega (arith, minimum_flow_lem, earliest_day t h l);
         }
 
     pub minimum_inside : minimum_day B flows k < length flows

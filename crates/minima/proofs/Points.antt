@@ -18,7 +18,7 @@ use Rattle.minima.specs.declared.block.Turning.{Turning}
 use Rattle.minima.specs.Blocks.{flow_on, block_start, block_count, minimum_flow, minimum_day, Minimum}
 use Rattle.minima.specs.TurningPoints.{turns, middle_turns, counting, turning_points}
 use Rattle.minima.specs.Private.{points_from, Low, FirstTurning, Found}
-use Rattle.minima.proofs.Minima.{blocks_positive, whole_block, block_counted, minimum_flow, block_minimum, minimum_found}
+use Rattle.minima.proofs.Minima.{blocks_positive, whole_block, block_counted, minimum_flow_lem, block_minimum, minimum_found}
 
 -- a list of days, each later than the one before it, the first later than a
 abbrev pub Rising : ℕ → List ℕ → Type 0
@@ -47,7 +47,7 @@ module _ (B : Blocks) (flows : List ℕ) where
 
   -- the test of three blocks, by the flows on their minima's days
   flow_at : (j : ℕ) {d : ℕ} → j < block_count B flows → d ≡ minimum_day B flows j → flow_on flows d ≡ minimum_flow B flows j
-  flow_at j c e = ap (flow_on flows) e ∙ minimum_flow B flows j c
+  flow_at j c e = ap (flow_on flows) e ∙ minimum_flow_lem B flows j c
 
   tested : (k : ℕ) {l m r : ℕ} {t : Bool} → k + 2 < block_count B flows → Low B flows l k m → r ≡ minimum_day B flows (k + 2)
       → t ≡ turns B.factor (flow_on flows l) (flow_on flows m) (flow_on flows r) → t ≡ middle_turns B flows k

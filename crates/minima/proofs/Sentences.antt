@@ -36,7 +36,7 @@ use Rattle.minima.specs.Blocks.{flow_on, block_start, block_count, minimum_flow,
 use Rattle.minima.specs.TurningPoints.{turns, TurningPoint, Neighbouring, TwoTurningPoints, turning_points, neighbours}
 use Rattle.minima.specs.Line.{between, line, line_over}
 use Rattle.minima.specs.Call.{blocks_of, has_two, any_of, no_line}
-use Rattle.minima.proofs.Minima.{whole_block, block_counted, minimum_flow, block_minimum, minimum_inside}
+use Rattle.minima.proofs.Minima.{whole_block, block_counted, minimum_flow_lem, block_minimum, minimum_inside}
 use Rattle.minima.proofs.Lengths.{line_length}
 use Rattle.minima.proofs.SegmentLine.{line_at}
 use Rattle.minima.proofs.AllSegments.{no_points, none_passes, one_passes}
@@ -73,7 +73,7 @@ module _ (B : Blocks) (flows : List ℕ) (k : ℕ) where
   minimum_of_block = block_minimum B flows k
 
   pub flow_of_minimum : k < block_count B flows → flow_on flows (minimum_day B flows k) ≡ minimum_flow B flows k
-  flow_of_minimum = minimum_flow B flows k
+  flow_of_minimum = minimum_flow_lem B flows k
 
 -- turning points
 abbrev TurningMinimum : (g left middle right : ℕ) → Type 0

@@ -6,7 +6,7 @@ ghost use Rattle.minima.specs.Private.{Low, Found};
 
 // The blocks of a segment: their length in days, the factor of their turning points in ten-thousandths, and the day of
 // the segment from which they run.
-#[derive(Drop)]
+#[derive(Clone, Copy)]
 pub(crate) struct Blocks {
     pub days: usize,
     pub factor: u32,
@@ -15,7 +15,7 @@ pub(crate) struct Blocks {
 
 // A block's minimum, where a turning point lies or from where one is looked for: its day, its block and the day of the
 // next block's minimum. As an answer, block 0 says that there is no turning point: the first block has none.
-#[derive(Drop)]
+#[derive(Clone, Copy)]
 pub(crate) struct Turning {
     pub day: usize,
     pub block: usize,

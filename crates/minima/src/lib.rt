@@ -1,5 +1,7 @@
 // Base flow by the minima line (document 01, "Block-minima line"): straight lines between the turning points of the
 // blocks' minima.
+#![tactic(auto)]
+
 mod block;
 mod piece;
 mod segment;
@@ -15,7 +17,7 @@ use segment::Lined;
 use series::{Refusal, Verdict, lengths_differ, refuse_if};
 
 // The setting of a line: the block length N in days, and the factor g of the turning points in ten-thousandths.
-#[derive(Drop)]
+#[derive(Clone, Copy)]
 pub struct LineSetting {
     pub block_days: u32,
     pub factor: u32,

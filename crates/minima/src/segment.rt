@@ -11,7 +11,7 @@ use crate::{block, piece};
 
 // The first two turning points of a segment, with which its line begins. The second is in block 0 where there are not
 // two: then there is no line.
-#[derive(Drop)]
+#[derive(Clone, Copy)]
 pub(crate) struct Points {
     pub first: Turning,
     pub second: Turning,
@@ -67,7 +67,7 @@ fn segment_end(days: &[u32], from: usize) -> usize
 }
 
 // A segment with a line: its first day, the day behind its last, and its first two turning points.
-#[derive(Drop)]
+#[derive(Clone, Copy)]
 pub(crate) struct Lined {
     pub from: usize,
     pub end: usize,

@@ -202,7 +202,7 @@ close_quotient (suc d) {p} {n} {f} h k =
 at_least : {p : Fraction} {m n : ℕ} {f g : Fraction} → AtMost f g → Close p m f → Close p n g → Close p (min m n) f
 at_least {p} {m} {n} {f} {g} h k l =
     let h' = mul-le-mul_right (L p) ((in_naturals f g).0 h) in
-    let below-n : OneSided 0 n (D f) (U f) (L f) (U p) (D p) (L p) =
+    let below_n : OneSided 0 n (D f) (U f) (L f) (U p) (D p) (L p) =
     le_of_mul-le-mul_right {k = L g} (omega (arith, mul-le-mul_right (L f) (apart l).below)) g.above_zero in
     close
     (record {

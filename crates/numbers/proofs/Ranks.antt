@@ -70,7 +70,7 @@ module _ {A B : Type 0} {R : A → B → Type 0} {at_most : A → A → Bool} {a
   unfolding sift
   sift_beside r none_beside = and_beside r none_beside
   sift_beside {x} {f} r (and_beside {a = y} {b = g} q e) =
-      let z = exchanged x y f g (at_most x y) (at_most' f g) refl refl r q in and_beside z.0 (sift_beside z.1 e)
+      let z = exchanged x y f g (at_most x y) (at_most' f g) refl refl r q in and_beside z.0 (sift_beside {x = cond (at_most x y) y x} {f = cond (at_most' f g) g f} z.1 e)
 
   pub rising_beside : {l : List A} {k : List B} → Beside R l k → Beside R (rising at_most l) (rising at_most' k)
   unfolding rising

@@ -43,7 +43,7 @@ module _ {A : Type 0} (test : A → Bool) where
       by_test true t rest n = ⊎_elim (λ e. (Memᴰ.head e, ap test e ∙ t)) (λ n. let r = rest n in (Memᴰ.tail r.0, r.1)) (Memᴰ.cases_cons n)
       by_test false t rest n = let r = rest n in (Memᴰ.tail r.0, r.1)
 
-  pub selected_still : {xs : List A} {x : A} → test x ≡ true → Memᴰ x xs → Memᴰ x (selected test xs)
+  pub selected_still : {x : A} {xs : List A} → test x ≡ true → Memᴰ x xs → Memᴰ x (selected test xs)
   unfolding selected
   selected_still t (Memᴰ.head e) = rw (sym (ap test e) ∙ t) (Memᴰ.head e)
   selected_still {x = x} t (Memᴰ.tail {x = y} {xs = ys} m) = by_test (test y) (selected_still t m)

@@ -54,7 +54,7 @@ down_by_sign (negsuc n) q = omega arith
 
 -- a field of a struct
 pub field : (s : ℤ) → mag s < 2147483648 → to_z w32 (of_z w32 s) ≡ s
-field s h = to_z-of_z (record { sfits = h })
+field s h = to_z-of_z {w = w32} {z = s} (record { sfits = h })
 
 module _ (s : ℤ) (f : SFits w32 s) where
   -- what stands in 32 bits is the number, and so what stands in 64

@@ -1,4 +1,6 @@
 // Rounding to the nearest whole number, document 01's near; the smaller and the larger of two lengths; the parts of a number of either sign.
+#![tactic(auto)]
+
 ghost use Rattle.std.specs.Prelude.{◌≡◌, ℕ, ◌+◌, ◌-◌, ◌/◌, ◌≤◌, ◌<◌, min, max};
 ghost use Rattle.numbers.specs.Near.{near};
 ghost use Rattle.numbers.specs.Whole.{up, down};

@@ -127,14 +127,14 @@ module _ {L : ℕ} {days base : List ℕ} (c : Checked L days base) where
       limb_causes : cause (eqb t.ratios 0) 19 ∷ cause (ltb (length list) (2 * t.limbs)) 22 ∷ [] ≡ cause (no_ratio (counted_ratios L days base)) 19 ∷ cause (limb_list_too_short (counted_limbs L days base) list) 22 ∷ []
       unfolding no_ratio limb_list_too_short
       limb_causes =
-          let limb-count : t.limbs ≡ length (counted_limbs L days base) = all.limbs ∙ ap length (sym same) in
-          ap₂ (λ k m. cause (eqb k 0) 19 ∷ cause (ltb (length list) (2 * m)) 22 ∷ []) same_count limb-count
+          let limb_count : t.limbs ≡ length (counted_limbs L days base) = all.limbs ∙ ap length (sym same) in
+          ap₂ (λ k m. cause (eqb k 0) 19 ∷ cause (ltb (length list) (2 * m)) 22 ∷ []) same_count limb_count
 
       pub out_ratios : {r : ℕ} → AtRank counts ((t.ratios + 1) / 2) r → first_cause (ratio_causes L days base list) ≡ none → accepted (record { count = t.ratios; median = r }) ≡ ratio_outcome L days base list
       unfolding ratio_outcome
       out_ratios {r} p e =
-          let same-median = median_found counts (counted_ratios L days base) each sized (subst (λ n. AtRank counts ((n + 1) / 2) r) same_count p) in
-          (λ i. accepted (record { count = same_count i; median = same-median i })) ∙ sym (outcome_accepted (ratio_causes L days base list) _ e)
+          let same_median = median_found counts (counted_ratios L days base) each sized (subst (λ n. AtRank counts ((n + 1) / 2) r) same_count p) in
+          (λ i. accepted (record { count = same_count i; median = same_median i })) ∙ sym (outcome_accepted (ratio_causes L days base list) _ e)
 
   -- the first cause by what was found is document 01's: where a day is invalid, no limb matters
   module _ (t : Tally) {counts lengths firsts : List ℕ} (f : Found L days base t (replicate 10001 0) counts (replicate 36526 0) lengths firsts) where

@@ -1,4 +1,6 @@
 // Recession ratios: the recession constant of a river from its own falling limbs, with every counted limb listed.
+#![tactic(auto)]
+
 ghost use Rattle.std.specs.Prelude.{◌≡◌, false, ℕ, ◌+◌, ◌*◌, ◌<◌, ◌≤◌, ◌^◌, length, get_or};
 ghost use Rattle.numbers.specs.Lists.{stored};
 ghost use Rattle.series.specs.Units.{day_of, day_limit};
@@ -18,7 +20,7 @@ pub const LEAST_LIMB_DAYS: u32 = 2;
 pub const MOST_LIMB_DAYS: u32 = 60;
 
 // What the call comes to.
-#[derive(Drop)]
+#[derive(Clone, Copy)]
 pub enum Answer {
     // The number of ratios, and their median in ten-thousandths. (A median of 0 or 10000 is no filter parameter.)
     Ratios { count: u32, median: u32 },
@@ -47,7 +49,7 @@ fn falls(earlier: u32, later: u32) -> bool
 }
 
 // A position, and whether its day is valid: 20 does not hold of it.
-#[derive(Drop)]
+#[derive(Clone, Copy)]
 struct Place {
     at: usize,
     valid: bool,
@@ -97,7 +99,7 @@ fn run_end(days: &[u32], base: &[u64], start: usize) -> usize
 
 // A limb that counts, by the position of its first day and the one behind its last. No days where none is left, or where an
 // invalid day comes first.
-#[derive(Drop)]
+#[derive(Clone, Copy)]
 struct Span {
     first: usize,
     end: usize,
@@ -160,7 +162,7 @@ fn tally_pairs(limb: &[u32], counts: &mut [u32; 10001])
 }
 
 // How many limbs count, how many ratios they have, and the most days that one of them has; and whether all days are valid.
-#[derive(Drop)]
+#[derive(Clone, Copy)]
 struct Tally {
     limbs: usize,
     ratios: usize,

@@ -34,11 +34,11 @@ accepted_record room bytes h =
     record { within_limit = omega (arith, d.total); within_room = omega (arith, d.fits); valid = d.valid; first_day = omega (arith, f.1, head_in_range room bytes f.0) }
 
 -- an answer with values: the record states them
-pub record Answered (room : ℕ) (bytes : List ℕ) (first_day day_count : ℕ) : Type 0 where
+pub record Answered (room : ℕ) (bytes : List ℕ) (first count : ℕ) : Type 0 where
   pub stated : Stated
   pub reads : reading room bytes ≡ accepted stated
-  pub first_day : stated.first_day ≡ first_day
-  pub day_count : length stated.days ≡ day_count
+  pub first_day : stated.first_day ≡ first
+  pub day_count : length stated.days ≡ count
   pub holds : AcceptedRecord room stated
 
 pub answered : (room : ℕ) (bytes : List ℕ) {f n : ℕ} → accepted (record { first_day = f; day_count = n }) ≡ reply_of (reading room bytes) → Answered room bytes f n
@@ -88,14 +88,14 @@ ReadingNumber n = (1 ≤ n) × (n ≤ 8)
 
 entry_refused : (first : Bool) (n room : ℕ) (e : Entry) (o : Outcome (List ℕ)) {r : ℕ} → ((m : ℕ) → o ≡ refused m → ReadingNumber m) → entry_then first n room e (λ _. o) ≡ refused r → ReadingNumber r
 unfolding entry_then entry_causes
-entry_refused first n room e o {r} further h = by_cause (first_cause (entry_causes first n room e)) refl (is_end e.kind) o further h
+entry_refused first n room e o {r} further h = by_first (first_cause (entry_causes first n room e)) refl (is_end e.kind) o further h
   where
-    by_cause : (c : Option ℕ) → first_cause (entry_causes first n room e) ≡ c → (b : Bool) (o : Outcome (List ℕ)) → ((m : ℕ) → o ≡ refused m → ReadingNumber m)
+    by_first : (c : Option ℕ) → first_cause (entry_causes first n room e) ≡ c → (b : Bool) (o : Outcome (List ℕ)) → ((m : ℕ) → o ≡ refused m → ReadingNumber m)
         → by_cause c refused (cond b (accepted []) (map_outcome (λ ds. stated_days e ++ ds) o)) ≡ refused r → ReadingNumber r
-    by_cause (some k) q b o further g = let same : k ≡ r = cc in subst ReadingNumber same (refusal_among ReadingNumber (entry_causes first n room e) (search rules) q)
-    by_cause none q true o further g = absurd (never_both (sym g))
-    by_cause none q false (accepted ds) further g = absurd (never_both (sym g))
-    by_cause none q false (refused m) further g = further r (cc)
+    by_first (some k) q b o further g = let same : k ≡ r = cc in subst ReadingNumber same (refusal_among ReadingNumber (entry_causes first n room e) (search rules) q)
+    by_first none q true o further g = absurd (never_both (sym g))
+    by_first none q false (accepted ds) further g = absurd (never_both (sym g))
+    by_first none q false (refused m) further g = further r (cc)
 
 days_refused : (first : Bool) (n room over : ℕ) (bytes : List ℕ) {r : ℕ} → days_from first n room over bytes ≡ refused r → ReadingNumber r
 unfolding days_from entry_then

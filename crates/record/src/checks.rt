@@ -54,7 +54,7 @@ fn check_entry(bytes: &[u8], at: usize, counted: usize, room: usize) -> Verdict
 }
 
 // A step of the checking walk: the bytes of an entry of days that passes, and its days; no bytes where the walk ends.
-#[derive(Drop)]
+#[derive(Clone, Copy)]
 struct Step {
     size: usize,
     days: usize,

@@ -16,7 +16,7 @@ pub(crate) const END: u8 = 9;
 pub(crate) const UNKNOWN: u8 = 0;
 
 // The kinds of entry, in document 01's order.
-#[derive(Drop)]
+#[derive(Clone, Copy)]
 pub(crate) enum Kind {
     // 01: the first day
     Head,

@@ -1,5 +1,7 @@
 // Reads a record: any bytes end in the days that they state, or in the one refusal that document 01 fixes. There are two
 // walks over the bytes, which stay where they are; nothing is allocated.
+#![tactic(auto)]
+
 mod checks;
 mod entry;
 mod writing;
@@ -13,7 +15,7 @@ use series::Refusal;
 use writing::write_days;
 
 // What reading gives: the first day, as days since 1 January 1900, and the number of days; or the refusal.
-#[derive(Drop)]
+#[derive(Clone, Copy)]
 pub enum Answer {
     Stated { first_day: u32, day_count: u32 },
     Refused(Refusal),

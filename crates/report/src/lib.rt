@@ -1,4 +1,6 @@
 // The text of the program `separate`: what it writes for the bytes of a record, into a buffer that the caller lends.
+#![tactic(auto)]
+
 mod decimal;
 mod lines;
 mod page;

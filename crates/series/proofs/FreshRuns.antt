@@ -29,13 +29,13 @@ module _ {U F : Type 0} (first : U → F) (next : F → U → U → F) where
 -- A run with any state that is seen so: `value` gives a day's f, `state` and `out` what a day makes of the state and puts
 -- out. The days and what is put out may be seen through views too.
 module _ {S U F : Type 0} (first : U → F) (next : F → U → U → F) (seen : S → Option (U × F)) (value : S → U → F) (state : S → Option U → S) (out : S → Option U → Option F)
-    (value_is : (st : S) (u : U) → value_from first next (seen st) u ≡ value st u) (after-gap : (st : S) → seen (state st none) ≡ none) (after-day : (st : S) (u : U) → seen (state st (some u)) ≡ some (u, value st u))
+    (value_is : (st : S) (u : U) → value_from first next (seen st) u ≡ value st u) (after_gap : (st : S) → seen (state st none) ≡ none) (after_day : (st : S) (u : U) → seen (state st (some u)) ≡ some (u, value st u))
     (none_out : (st : S) → out st none ≡ none) (value_out : (st : S) (u : U) → out st (some u) ≡ some (value st u)) where
   gap_run : (st : S) (days : List (Option U)) → scan state out st days ≡ map some (from first next (seen st) (parts days).first) ++ after_gaps (λ s. map some (recursive first next s)) (parts days).rest
   unfolding parts after_gaps
   gap_run st [] = rw (scan_none state out st, from_nil first next (seen st))
-  gap_run st (none ∷ ds) = rw (scan_next state out st none ds, from_nil first next (seen st), none_out st) (ap (λ l. none ∷ l) (rw (after-gap st) at (gap_run (state st none) ds)))
-  gap_run st (some u ∷ ds) = rw (scan_next state out st (some u) ds, from_cons first next (seen st) u (parts ds).first, value_is st u, value_out st u) (ap (λ l. some (value st u) ∷ l) (rw (after-day st u) at (gap_run (state st (some u)) ds)))
+  gap_run st (none ∷ ds) = rw (scan_next state out st none ds, from_nil first next (seen st), none_out st) (ap (λ l. none ∷ l) (rw (after_gap st) at (gap_run (state st none) ds)))
+  gap_run st (some u ∷ ds) = rw (scan_next state out st (some u) ds, from_cons first next (seen st) u (parts ds).first, value_is st u, value_out st u) (ap (λ l. some (value st u) ∷ l) (rw (after_day st u) at (gap_run (state st (some u)) ds)))
 
   pub run_alone : {A B : Type 0} (input : A → Option U) (output : Option F → B) (st : S) → seen st ≡ none → (days : List A)
       → scan (λ st d. state st (input d)) (λ st d. output (out st (input d))) st days ≡ map output (over_segments (λ s. map some (recursive first next s)) (map input days))

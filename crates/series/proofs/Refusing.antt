@@ -152,11 +152,11 @@ decides_next {cs} {test = test} {n} e w d =
 pub decides_then : {cs : List Cause} {v v' : Verdict} {holds test : Bool} {n : ℕ} → (((k : ℕ) → holds_of k cs ≡ false) → holds ≡ test) → WithCause v holds n v' → Decides cs v → Decides (cs ++ cause test n ∷ []) v'
 unfolding or_else
 decides_then {cs} {v} {holds = holds} {test} {n} e w d =
-    record { first = w.next ∙ ap (λ a. or_else a (cond holds (some n) none)) d.first ∙ by_cause (first_cause cs) (λ g. e (passed cs g)) ∙ sym (first_append cs (cause test n ∷ [])) }
+    record { first = w.next ∙ ap (λ a. or_else a (cond holds (some n) none)) d.first ∙ by_first (first_cause cs) (λ g. e (passed cs g)) ∙ sym (first_append cs (cause test n ∷ [])) }
   where
-    by_cause : (o : Option ℕ) → (o ≡ none → holds ≡ test) → or_else o (cond holds (some n) none) ≡ or_else o (cond test (some n) none)
-    by_cause none g = ap (λ b. cond b (some n) none) (g refl)
-    by_cause (some k) g = refl
+    by_first : (o : Option ℕ) → (o ≡ none → holds ≡ test) → or_else o (cond holds (some n) none) ≡ or_else o (cond test (some n) none)
+    by_first none g = ap (λ b. cond b (some n) none) (g refl)
+    by_first (some k) g = refl
 
 -- a second check, after a first that refused nothing
 pub decides_after : {cs ds : List Cause} {v w : Verdict} → Decides cs v → v ≡ Accepted → Decides ds w → Decides (cs ++ ds) w
@@ -187,11 +187,11 @@ module _ {A : Type 0} (cs : List Cause) where
   -- from its two cases
   pub leaves_by : (filled entry : A) {left : A} → (first_cause cs ≡ none → left ≡ filled) → ((n : ℕ) → first_cause cs ≡ some n → left ≡ entry) → left ≡ leaves cs filled entry
   unfolding leaves
-  leaves_by filled entry {left} accept refuse = by_cause (first_cause cs) accept refuse
+  leaves_by filled entry {left} accept refuse = by_first (first_cause cs) accept refuse
     where
-      by_cause : (o : Option ℕ) → (o ≡ none → left ≡ filled) → ((n : ℕ) → o ≡ some n → left ≡ entry) → left ≡ by_cause o (λ _. entry) filled
-      by_cause none f g = f refl
-      by_cause (some n) f g = g n refl
+      by_first : (o : Option ℕ) → (o ≡ none → left ≡ filled) → ((n : ℕ) → o ≡ some n → left ≡ entry) → left ≡ by_cause o (λ _. entry) filled
+      by_first none f g = f refl
+      by_first (some n) f g = g n refl
 
 -- the same of a call whose check came to a verdict
 module _ {cs : List Cause} {v : Verdict} (d : Decides cs v) where
@@ -219,15 +219,15 @@ same_values e = cc
 
 module _ {A : Type 0} (cs : List Cause) (a : A) where
   pub outcome_was_accepted : {b : A} → outcome cs a ≡ accepted b → (first_cause cs ≡ none) × (a ≡ b)
-  outcome_was_accepted {b} e = by_cause (first_cause cs) refl e
+  outcome_was_accepted {b} e = by_first (first_cause cs) refl e
     where
-      by_cause : (o : Option ℕ) → first_cause cs ≡ o → by_cause o refused (accepted a) ≡ accepted b → (first_cause cs ≡ none) × (a ≡ b)
-      by_cause none h g = (h, cc)
-      by_cause (some n) h g = absurd (never_both g)
+      by_first : (o : Option ℕ) → first_cause cs ≡ o → by_cause o refused (accepted a) ≡ accepted b → (first_cause cs ≡ none) × (a ≡ b)
+      by_first none h g = (h, cc)
+      by_first (some n) h g = absurd (never_both g)
 
   pub outcome_was_refused : {n : ℕ} → outcome cs a ≡ refused n → first_cause cs ≡ some n
-  outcome_was_refused {n} e = by_cause (first_cause cs) refl e
+  outcome_was_refused {n} e = by_first (first_cause cs) refl e
     where
-      by_cause : (o : Option ℕ) → first_cause cs ≡ o → by_cause o refused (accepted a) ≡ refused n → first_cause cs ≡ some n
-      by_cause none h g = absurd (never_both (sym g))
-      by_cause (some k) h g = let same : k ≡ n = cc in h ∙ ap some same
+      by_first : (o : Option ℕ) → first_cause cs ≡ o → by_cause o refused (accepted a) ≡ refused n → first_cause cs ≡ some n
+      by_first none h g = absurd (never_both (sym g))
+      by_first (some k) h g = let same : k ≡ n = cc in h ∙ ap some same

@@ -1,5 +1,7 @@
 // The day list and the base list as the calls take them: limits and marks, the refusals of document 01's table, and
 // the tests that several calls share. A day list holds flows in litres a second, a base list thousandths of that.
+#![tactic(auto)]
+
 ghost use Rattle.std.specs.Prelude.{◌≡◌, ◌||◌};
 ghost use Rattle.series.specs.Units.{is_invalid_day, day_of, base_of, within};
 ghost use Rattle.series.specs.Causes.{refusal_number, WithCause};
@@ -15,7 +17,7 @@ pub const MISSING: u32 = 4_294_967_295;
 pub const NO_VALUE: u64 = 18_446_744_073_709_551_615;
 
 // The rows of document 01's refusal table, in its order.
-#[derive(Drop)]
+#[derive(Clone, Copy)]
 pub enum Refusal {
     // 1: bytes that run out within a body, or before an end entry
     Truncated,
@@ -105,7 +107,7 @@ impl Refusal {
 }
 
 // What a call, or a check of a part of its input, comes to: accepted, or the first cause of refusal.
-#[derive(Drop)]
+#[derive(Clone, Copy)]
 pub enum Verdict {
     Accepted,
     Refused(Refusal),

@@ -7,7 +7,7 @@ use mathlib.Core.List.{List, [], ◌∷◌, map}
 use mathlib.Core.Option.{Option, none, some}
 use native.Mathlib.Omega.{arith}
 use lib.ListN.{length, get_or}
-use Rattle.numbers.specs.Fraction.{Fraction, half}
+use Rattle.numbers.specs.Fraction.{Fraction}
 use Rattle.numbers.specs.Lists.{Each, done, then, Beside, none_beside, and_beside}
 use Rattle.numbers.specs.Arithmetic.{Close, rounded, exact}
 use Rattle.numbers.specs.Order.{ranked}

@@ -11,13 +11,12 @@ use lib.ListN.{length, take, drop, set, length-append, length-drop, length-set}
 use lib.Seq.{length-take-le, take_all, take_at, take-suc-set, append_snoc}
 use Rattle.numbers.specs.Arithmetic.{rounded}
 use Rattle.series.specs.Units.{day_of, base_mark}
-use Rattle.series.proofs.Tests as tests
 use Rattle.minima.specs.declared.LineSetting.{LineSetting}
 use Rattle.minima.specs.TurningPoints.{counting}
 use Rattle.minima.specs.Line.{line_over}
 use Rattle.minima.specs.Call.{blocks_at, no_line, line_list}
-use Rattle.minima.proofs.Lengths.{counting_next, counting_end, line_list, line_list_length}
-use Rattle.staggered.specs.Rule.{shifts, lines}
+use Rattle.minima.proofs.Lengths.{counting_next, counting_end, line_list_lem, line_list_length}
+use Rattle.staggered.specs.Rule.{lines}
 use Rattle.staggered.specs.Call.{all_of, no_lines, work_list}
 
 -- 17: the shifts from o on
@@ -82,7 +81,7 @@ module _ (s : LineSetting) (days : List ℕ) where
               ap (λ l. take end l ++ drawn (counting (o + 1) (s.block_days - (o + 1)))) (sym (append_assoc (take at work) ys rest))
               ∙ ap (λ l. l ++ drawn (counting (o + 1) (s.block_days - (o + 1)))) (take_at (take at work ++ ys) rest end before)
               ∙ append_assoc (take at work) ys _
-              ∙ ap (λ y. take at work ++ (y ++ drawn (counting (o + 1) (s.block_days - (o + 1))))) (f ∙ line_list (blocks_at s o) days)
+              ∙ ap (λ y. take at work ++ (y ++ drawn (counting (o + 1) (s.block_days - (o + 1))))) (f ∙ line_list_lem (blocks_at s o) days)
               ∙ ap (λ os. take at work ++ drawn os) (sym (counting_next o s.block_days h))
               ∙ d.all_lines;
         }

@@ -1,5 +1,7 @@
 // Base flow by staggered blocks (docs/RULES.md, "Staggered blocks"): the minima lines of all shifts of the blocks, and the
 // lowest, the highest or the middle one of their values on each day.
+#![tactic(auto)]
+
 mod day;
 
 ghost use Rattle.std.specs.Prelude.{◌≡◌, map, length};

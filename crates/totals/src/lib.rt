@@ -1,4 +1,6 @@
 // Totals over the days with a base value, and the base flow index (document 01, "Totals and index").
+#![tactic(auto)]
+
 ghost use Rattle.std.specs.Prelude.{◌≡◌, ◌*◌, ◌-◌, ◌≤◌, false, length};
 ghost use Rattle.series.specs.Units.{day_of, base_of, day_limit};
 ghost use Rattle.series.specs.Lists.{is_invalid_base};
@@ -9,7 +11,7 @@ ghost use Rattle.totals.specs.Private.{add_day, Room, OneMore, day_counted, flow
 use series::{Refusal, Verdict, lengths_differ, refuse_if};
 
 // The totals over the days with a base value.
-#[derive(Drop)]
+#[derive(Clone, Copy)]
 pub struct Totals {
     // m: how many these days are
     pub days: u32,
@@ -23,14 +25,14 @@ pub struct Totals {
     pub index: u32,
 }
 
-#[derive(Drop)]
+#[derive(Clone, Copy)]
 pub enum Answer {
     Summed(Totals),
     Refused(Refusal),
 }
 
 // The sums so far: days with a base value, their flows and their base values.
-#[derive(Drop)]
+#[derive(Clone, Copy)]
 struct Tally {
     days: u32,
     flow: u64,
@@ -38,7 +40,7 @@ struct Tally {
 }
 
 // What the walk over two lists comes to.
-#[derive(Drop)]
+#[derive(Clone, Copy)]
 enum Found {
     Sums(Tally),
     InvalidBase,
