@@ -1,7 +1,7 @@
 #!/usr/bin/env python3
 """Checks what the program `separate` writes against document 01's rules (tests/rules.py).
 
-    tests/separate.py [target/bin/separate]
+    tests/separate.py [crates/separate/out/separate]
 
 Runs the program on document 01's sample, on records at every limit, on each refusal that reading can give, on random
 records and on damaged ones, with input or output closed, with words behind its name, and with a small stack. Ends with the
@@ -10,7 +10,6 @@ number of cases that passed, or exits with 1 and the smallest record that failed
 import os
 import random
 import resource
-import signal
 import subprocess
 import sys
 import tempfile
@@ -19,7 +18,7 @@ sys.dont_write_bytecode = True
 from rules import LAST_FIRST_DAY, MOST_DAYS, MOST_FLOW, Refusal, near, over_stretches, passes_over, read, totals
 
 ROOT = os.path.join(os.path.dirname(os.path.abspath(__file__)), "..")
-PROGRAM = os.path.join(ROOT, "target/bin/separate")
+PROGRAM = os.path.join(ROOT, "crates/separate/out/separate")
 MOST_BYTES, SPACE = 32768, 2048
 STACK = 128 * 1024  # bytes of the program's own
 SYSTEM = 16 * 1024  # what the system puts above them: up to 8 KiB at random, the program's name, a page begun
@@ -155,7 +154,7 @@ def closed(program):
         with open(sample.name, "rb") as record:
             done = subprocess.run([program], stdin=record, stdout=writer, stderr=subprocess.PIPE, timeout=10)
         os.close(writer)
-        yield "a pipe that nobody reads", done.returncode == -signal.SIGPIPE
+        yield "a pipe that nobody reads", (done.returncode, done.stderr) == (0, told_out)
 
 
 def main():
@@ -163,7 +162,7 @@ def main():
         sys.exit(__doc__)
     program = os.path.abspath(sys.argv[1] if len(sys.argv) == 2 else PROGRAM)
     if not os.path.exists(program):
-        sys.exit(f"{program} is not there; `rt check separate` makes it")
+        sys.exit(f"{program} is not there; `rt run` in crates/separate makes it")
     with open(SAMPLE_FILE, "rb") as sample:
         if sample.read() != SAMPLE:
             sys.exit("samples/sample.record is not document 01's sample")

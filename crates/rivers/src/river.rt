@@ -1,6 +1,6 @@
 // Rivers made for the tests. tests/rivers.py makes the same ones.
 // What a made river goes by: the number that its weather is drawn from, and the water in its ground.
-#[derive(Drop)]
+#[derive(Clone, Copy)]
 struct Weather {
     drawn: u32,
     store: u32,

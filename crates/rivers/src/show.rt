@@ -1,39 +1,36 @@
 // What the calls give, as text: check sums and selected days.
 ghost use Rattle.std.specs.Prelude.{◌<◌};
 
-use libc::STDOUT_FILENO;
 use series::Verdict;
+use std::io;
 
 const MODULUS: u64 = 1_000_000_007;
 
-pub fn text(words: &[u8]) {
-    io::write_all(STDOUT_FILENO, words);
+pub fn text(rt: &impl Print, words: &[u8]) -> io::Result<()> {
+    rt.write_all(words)
 }
 
-pub fn number(n: u64) {
-    io::write_all(STDOUT_FILENO, b" ");
-    io::print_decimal(STDOUT_FILENO, n);
+pub fn number(rt: &impl Print, n: u64) -> io::Result<()> {
+    print!(rt; " {n}")
 }
 
 // A number of either sign.
-pub fn signed(s: i32) {
+pub fn signed(rt: &impl Print, s: i32) -> io::Result<()> {
     let below = numbers::below_zero(s);
     if below == 0 {
-        number(numbers::above_zero(s));
-        return;
+        return number(rt, numbers::above_zero(s));
     }
-    io::write_all(STDOUT_FILENO, b" -");
-    io::print_decimal(STDOUT_FILENO, below);
+    print!(rt; " -{below}")
 }
 
 // Words and their number.
-pub fn named(words: &[u8], n: u64) {
-    text(words);
-    number(n);
+pub fn named(rt: &impl Print, words: &[u8], n: u64) -> io::Result<()> {
+    text(rt, words)?;
+    number(rt, n)
 }
 
-pub fn end_of_line() {
-    io::write_all(STDOUT_FILENO, b"\n");
+pub fn end_of_line(rt: &impl Print) -> io::Result<()> {
+    text(rt, b"\n")
 }
 
 // A check sum with one number more.
@@ -68,33 +65,33 @@ fn day_sum(days: &[u32]) -> u64 {
 }
 
 // The end of a line with a base list: its check sum, and its values on the first, the middle and the last day.
-pub fn base_list(base: &[u64]) {
-    named(b", base", base_sum(base));
+pub fn base_list(rt: &impl Print, base: &[u64]) -> io::Result<()> {
+    named(rt, b", base", base_sum(base))?;
     if base.len() > 0 {
-        number(base[0]);
-        number(base[base.len() / 2]);
-        number(base[base.len() - 1]);
+        number(rt, base[0])?;
+        number(rt, base[base.len() / 2])?;
+        number(rt, base[base.len() - 1])?;
     }
-    end_of_line();
+    end_of_line(rt)
 }
 
-pub fn day_list(days: &[u32]) {
-    named(b", days", day_sum(days));
-    end_of_line();
+pub fn day_list(rt: &impl Print, days: &[u32]) -> io::Result<()> {
+    named(rt, b", days", day_sum(days))?;
+    end_of_line(rt)
 }
 
-pub fn limb_list(limbs: &[u32]) {
-    named(b", limbs", day_sum(limbs));
-    end_of_line();
+pub fn limb_list(rt: &impl Print, limbs: &[u32]) -> io::Result<()> {
+    named(rt, b", limbs", day_sum(limbs))?;
+    end_of_line(rt)
 }
 
-pub fn refusal(refusal: series::Refusal) {
-    named(b": refused", refusal.number() as u64);
+pub fn refusal(rt: &impl Print, refusal: series::Refusal) -> io::Result<()> {
+    named(rt, b": refused", refusal.number() as u64)
 }
 
-pub fn verdict(verdict: Verdict) {
+pub fn verdict(rt: &impl Print, verdict: Verdict) -> io::Result<()> {
     match verdict {
-        Verdict::Accepted => text(b": accepted"),
-        Verdict::Refused(cause) => refusal(cause),
+        Verdict::Accepted => text(rt, b": accepted"),
+        Verdict::Refused(cause) => refusal(rt, cause),
     }
 }

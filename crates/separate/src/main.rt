@@ -1,35 +1,41 @@
 // The program `separate`: a record on standard input, the base flow of its days and the index on standard output.
 // Input that cannot be read and output that cannot be written are told on standard error.
-ghost use Rattle.std.specs.Prelude.{length};
-ghost use Rattle.separate.specs.Private.{FitsInto};
+#![tactic(auto)]
 
-use libc::{STDERR_FILENO, STDIN_FILENO, STDOUT_FILENO};
+ghost use Rattle.std.specs.Prelude.{length, OnOk};
+ghost use Rattle.std.specs.Io.KnownBytes.{Appends};
+ghost use Rattle.report.specs.Text.{separate_text};
+ghost use Rattle.separate.specs.Private.{FitsInto, Takes, TakesAll};
+
+use std::io;
+use std::io::{Read, Write};
 
 // What standard input comes to: so many bytes, or none that can be relied on.
-#[derive(Drop)]
+#[derive(Clone, Copy)]
 enum Input {
     Bytes(usize),
     Unreadable,
 }
 
 // One read: no bytes at the input's end.
-fn read_part(part: &mut [u8]) -> Input
-    ensures { FitsInto result (length part.new) }
+fn read_part<R: Read>(from: &mut R, part: &mut [u8]) -> Input
+    ensures fits { FitsInto result (length part.new) }
+    ensures taken { Takes result (R.remaining from.old) (R.remaining from.new) part.new }
 {
-    let got = libc::read(STDIN_FILENO, part);
-    if got < 0 {
-        return Input::Unreadable;
+    match from.read(part) {
+        Ok(n) => Input::Bytes(n),
+        Err(_) => Input::Unreadable,
     }
-    Input::Bytes(io::count(got, part))
 }
 
 // Reads until the input ends or the buffer is full.
-fn read_input(bytes: &mut [u8]) -> Input
-    ensures { FitsInto result (length bytes.new) }
+fn read_input<R: Read>(from: &mut R, bytes: &mut [u8]) -> Input
+    ensures fits { FitsInto result (length bytes.new) }
+    ensures taken { TakesAll result (R.remaining from.old) (R.remaining from.new) bytes.new }
 {
     let mut at = 0;
     while at < bytes.len() {
-        let part = read_part(&mut bytes[at..]);
+        let part = read_part(from, &mut bytes[at..]);
         let Input::Bytes(n) = part else {
             return Input::Unreadable;
         };
@@ -41,25 +47,24 @@ fn read_input(bytes: &mut [u8]) -> Input
     Input::Bytes(at)
 }
 
-// Writes the text for a record's bytes to standard output; whether all of it went out.
-fn write_report(bytes: &[u8]) -> bool {
-    let mut text = io::large_buffer();
+// Writes the text for a record's bytes; an error where not all of it went out.
+fn write_report<W: Write>(to: &mut W, bytes: &[u8]) -> io::Result<()>
+    ensures { OnOk result (Appends (W.contents to.old) (W.contents to.new) (separate_text bytes.now)) }
+{
+    let mut text = [0u8; 65536];
     let size = report::report(bytes, &mut text);
-    io::write_all(STDOUT_FILENO, &text[..size])
+    to.write_all(&text[..size])
 }
 
-fn main() {
+fn main(rt: HostRuntime) {
     // one byte more than a record may have, so that a longer one is seen
     let mut bytes = [0u8; 32769];
-    let input = read_input(&mut bytes);
+    let input = read_input(&mut rt.stdin(), &mut bytes);
     let Input::Bytes(n) = input else {
-        io::write_all(STDERR_FILENO, b"separate: standard input cannot be read\n");
+        let _ = rt.eprintln("separate: standard input cannot be read");
         return;
     };
-    if !write_report(&bytes[..n]) {
-        io::write_all(
-            STDERR_FILENO,
-            b"separate: standard output cannot be written\n",
-        );
+    if write_report(&mut rt.stdout(), &bytes[..n]).is_err() {
+        let _ = rt.eprintln("separate: standard output cannot be written");
     }
 }
