@@ -3,8 +3,8 @@
  *
  * Base flow is the part of a river's flow that groundwater feeds. From a record of daily flows the engine reads the
  * days, separates base flow by a recursive filter or by the smoothed-minima line, totals it, finds recession ratios and
- * half-lives, and estimates BFImax from the river itself. Link with target/staticlib/libbaseflow.a, which
- * `rt staticlib baseflow` makes (x86-64).
+ * half-lives, and estimates BFImax from the river itself. Link with target/staticlib/libbaseflow.a, which `tools/archive`
+ * makes (x86-64).
  *
  * Units
  *   flow        litres a second, whole, 0 to 10,000,000
@@ -36,8 +36,8 @@
  *   - No allocation, no input or output, no exit, no panic. Of the C library only memset is needed. No floating point,
  *     but vector registers may be used, as by any code for x86-64.
  *   - Every call ends, after a time that grows linearly with the lengths that it is given.
- *   - Stack, as bench/run measures it: baseflow_recession keeps three arrays of counters and needs 147 KiB,
- *     baseflow_half_life lays out its table and needs 2 KiB, all others stay below 1 KiB.
+ *   - Stack, as bench/run measures it: baseflow_recession keeps three arrays of counters and needs 147 KiB, all others
+ *     stay below 1 KiB.
  */
 #ifndef BASEFLOW_H
 #define BASEFLOW_H

@@ -21,7 +21,7 @@ MOST_DAYS = 36525
 
 def archive():
     if not ARCHIVE.exists():
-        sys.exit(f"{ARCHIVE} is not there; `rt staticlib baseflow` makes it")
+        sys.exit(f"{ARCHIVE} is not there; `tools/archive` makes it")
     return ARCHIVE
 
 

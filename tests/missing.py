@@ -26,8 +26,8 @@ def main():
         sys.exit(__doc__)
     none = "target/there-is-none"
     for command in NEED_ARCHIVE:
-        check(command, f"{none} is not there; `rt staticlib baseflow` makes it", BASEFLOW_ARCHIVE=none)
-    check(f"tests/separate.py {none}", f"{none} is not there; `rt check separate` makes it")
+        check(command, f"{none} is not there; `tools/archive` makes it", BASEFLOW_ARCHIVE=none)
+    check(f"tests/separate.py {none}", f"{none} is not there; `rt run` in crates/separate makes it")
     with tempfile.TemporaryDirectory() as folder:
         os.symlink(sys.executable, f"{folder}/python3")
         for command in NEED_GCC:

@@ -1,5 +1,8 @@
 // The C interface (include/baseflow.h): each function makes one call, answers 0 or document 01's number of the refusal,
-// and writes what the call gives through its out-parameters. On a refusal it writes to none of them.
+// and writes what the call gives through its out-parameters. On a refusal it writes to none of them. The crate baseflow_c
+// exports them.
+#![tactic(auto)]
+
 ghost use Rattle.std.specs.Prelude.{◌≡◌, length};
 ghost use Rattle.series.specs.Causes.{refusal_of, first_cause};
 ghost use Rattle.record.specs.Call.{reading, reply_of, read_leaves};
@@ -27,8 +30,7 @@ fn number(verdict: Verdict) -> u32
 }
 
 // Reads a record into a day list.
-#[unsafe(no_mangle)]
-pub extern "C" fn baseflow_read(
+pub fn baseflow_read(
     bytes: &[u8],
     days: &mut [u32],
     first_day: &mut u32,
@@ -54,8 +56,7 @@ pub extern "C" fn baseflow_read(
 }
 
 // Base flow of a day list by a filter, after 1 to 3 passes.
-#[unsafe(no_mangle)]
-pub extern "C" fn baseflow_filter(
+pub fn baseflow_filter(
     method: u32,
     p: u32,
     q: u32,
@@ -72,8 +73,7 @@ pub extern "C" fn baseflow_filter(
 }
 
 // Base flow of a day list by the minima line.
-#[unsafe(no_mangle)]
-pub extern "C" fn baseflow_line(block_days: u32, factor: u32, days: &[u32], base: &mut [u64]) -> u32
+pub fn baseflow_line(block_days: u32, factor: u32, days: &[u32], base: &mut [u64]) -> u32
     ensures value { result ≡ returned_cause (first_cause (line_causes (line_setting_of block_days factor) days.now base.old)) }
     ensures base_after { base.new ≡ line_leaves (line_setting_of block_days factor) days.now base.old }
 {
@@ -82,8 +82,7 @@ pub extern "C" fn baseflow_line(block_days: u32, factor: u32, days: &[u32], base
 }
 
 // The lowest, the highest or the median of the minima lines of all shifts of the blocks.
-#[unsafe(no_mangle)]
-pub extern "C" fn baseflow_staggered(
+pub fn baseflow_staggered(
     block_days: u32,
     factor: u32,
     choice: u32,
@@ -100,8 +99,7 @@ pub extern "C" fn baseflow_staggered(
 }
 
 // Totals and index of a day list and its base list.
-#[unsafe(no_mangle)]
-pub extern "C" fn baseflow_totals(
+pub fn baseflow_totals(
     days: &[u32],
     base: &[u64],
     base_days: &mut u32,
@@ -132,8 +130,7 @@ pub extern "C" fn baseflow_totals(
 }
 
 // BFImax of the D days that end on the last day.
-#[unsafe(no_mangle)]
-pub extern "C" fn baseflow_bfimax(
+pub fn baseflow_bfimax(
     last_day: u32,
     duration: u32,
     p: u32,
@@ -156,8 +153,7 @@ pub extern "C" fn baseflow_bfimax(
 }
 
 // Recession ratios of the days at base, with every counted limb listed, the longest first.
-#[unsafe(no_mangle)]
-pub extern "C" fn baseflow_recession(
+pub fn baseflow_recession(
     limb_days: u32,
     days: &[u32],
     base: &[u64],
@@ -182,8 +178,7 @@ pub extern "C" fn baseflow_recession(
 }
 
 // Days until half is left, for p in thousandths.
-#[unsafe(no_mangle)]
-pub extern "C" fn baseflow_half_life(p: u32, days: &mut u32) -> u32
+pub fn baseflow_half_life(p: u32, days: &mut u32) -> u32
     ensures value { result ≡ returned (half_life_outcome p) }
     ensures days_after { days.new ≡ handed_out (λ n. n) (half_life_outcome p) days.old }
 {
@@ -198,7 +193,7 @@ pub extern "C" fn baseflow_half_life(p: u32, days: &mut u32) -> u32
 }
 
 // The daily step's state in three numbers.
-#[derive(Drop)]
+#[derive(Clone, Copy)]
 struct StateNumbers {
     has: u32,
     flow: u32,
@@ -233,8 +228,7 @@ fn numbers_of(state: DailyFilter) -> StateNumbers
 }
 
 // The base value of one day more, with the state that goes from day to day.
-#[unsafe(no_mangle)]
-pub extern "C" fn baseflow_step(
+pub fn baseflow_step(
     method: u32,
     p: u32,
     q: u32,

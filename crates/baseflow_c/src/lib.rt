@@ -1,0 +1,169 @@
+// The archive that C programs link (include/baseflow.h): each export makes baseflow's call of the same name, and promises
+// what that promises.
+#![tactic(auto)]
+
+ghost use Rattle.std.specs.Prelude.{◌≡◌, length};
+ghost use Rattle.series.specs.Causes.{first_cause};
+ghost use Rattle.record.specs.Call.{reading, reply_of, read_leaves};
+ghost use Rattle.filter.specs.Call.{filter_causes, filter_leaves, step_rule};
+ghost use Rattle.minima.specs.Call.{line_causes, line_leaves};
+ghost use Rattle.staggered.specs.Call.{staggered_causes, base_leaves, work_leaves};
+ghost use Rattle.totals.specs.Call.{totals_outcome};
+ghost use Rattle.bfimax.specs.Call.{spell_of, bfimax_outcome, bfimax_leaves};
+ghost use Rattle.recession.specs.Call.{ratio_outcome, ratio_leaves};
+ghost use Rattle.half_life.specs.Call.{half_life_outcome};
+ghost use Rattle.baseflow.specs.Interface.{returned, returned_cause, handed_out, setting_of, line_setting_of, state_of, value_out, state_out};
+
+// Reads a record into a day list.
+#[unsafe(no_mangle)]
+pub extern "C" fn baseflow_read(
+    bytes: &[u8],
+    days: &mut [u32],
+    first_day: &mut u32,
+    day_count: &mut u32,
+) -> u32
+    ensures value { result ≡ returned (reply_of (reading (length days.old) bytes.now)) }
+    ensures days_after { days.new ≡ read_leaves (reading (length days.old) bytes.now) days.old }
+    ensures first_day_after { first_day.new ≡ handed_out (λ s. s.first_day) (reply_of (reading (length days.old) bytes.now)) first_day.old }
+    ensures day_count_after { day_count.new ≡ handed_out (λ s. s.day_count) (reply_of (reading (length days.old) bytes.now)) day_count.old }
+{
+    baseflow::baseflow_read(bytes, days, first_day, day_count)
+}
+
+// Base flow of a day list by a filter, after 1 to 3 passes.
+#[unsafe(no_mangle)]
+pub extern "C" fn baseflow_filter(
+    method: u32,
+    p: u32,
+    q: u32,
+    s: i32,
+    passes: u32,
+    days: &[u32],
+    base: &mut [u64],
+) -> u32
+    ensures value { result ≡ returned_cause (first_cause (filter_causes (setting_of method p q s) passes days.now base.old)) }
+    ensures base_after { base.new ≡ filter_leaves (setting_of method p q s) passes days.now base.old }
+{
+    baseflow::baseflow_filter(method, p, q, s, passes, days, base)
+}
+
+// Base flow of a day list by the minima line.
+#[unsafe(no_mangle)]
+pub extern "C" fn baseflow_line(block_days: u32, factor: u32, days: &[u32], base: &mut [u64]) -> u32
+    ensures value { result ≡ returned_cause (first_cause (line_causes (line_setting_of block_days factor) days.now base.old)) }
+    ensures base_after { base.new ≡ line_leaves (line_setting_of block_days factor) days.now base.old }
+{
+    baseflow::baseflow_line(block_days, factor, days, base)
+}
+
+// The lowest, the highest or the median of the minima lines of all shifts of the blocks.
+#[unsafe(no_mangle)]
+pub extern "C" fn baseflow_staggered(
+    block_days: u32,
+    factor: u32,
+    choice: u32,
+    days: &[u32],
+    base: &mut [u64],
+    work: &mut [u64],
+) -> u32
+    ensures value { result ≡ returned_cause (first_cause (staggered_causes (line_setting_of block_days factor) choice days.now base.old work.old)) }
+    ensures base_after { base.new ≡ base_leaves (line_setting_of block_days factor) choice days.now base.old work.old }
+    ensures work_after { work.new ≡ work_leaves (line_setting_of block_days factor) choice days.now base.old work.old }
+{
+    baseflow::baseflow_staggered(block_days, factor, choice, days, base, work)
+}
+
+// Totals and index of a day list and its base list.
+#[unsafe(no_mangle)]
+pub extern "C" fn baseflow_totals(
+    days: &[u32],
+    base: &[u64],
+    base_days: &mut u32,
+    flow_total: &mut u64,
+    base_total: &mut u64,
+    quick_total: &mut u64,
+    index: &mut u32,
+) -> u32
+    ensures value { result ≡ returned (totals_outcome days.now base.now) }
+    ensures base_days_after { base_days.new ≡ handed_out (λ t. t.days) (totals_outcome days.now base.now) base_days.old }
+    ensures flow_total_after { flow_total.new ≡ handed_out (λ t. t.flow) (totals_outcome days.now base.now) flow_total.old }
+    ensures base_total_after { base_total.new ≡ handed_out (λ t. t.base) (totals_outcome days.now base.now) base_total.old }
+    ensures quick_total_after { quick_total.new ≡ handed_out (λ t. t.quick) (totals_outcome days.now base.now) quick_total.old }
+    ensures index_after { index.new ≡ handed_out (λ t. t.index) (totals_outcome days.now base.now) index.old }
+{
+    baseflow::baseflow_totals(
+        days,
+        base,
+        base_days,
+        flow_total,
+        base_total,
+        quick_total,
+        index,
+    )
+}
+
+// BFImax of the D days that end on the last day.
+#[unsafe(no_mangle)]
+pub extern "C" fn baseflow_bfimax(
+    last_day: u32,
+    duration: u32,
+    p: u32,
+    days: &[u32],
+    base: &mut [u64],
+    bfimax: &mut u32,
+) -> u32
+    ensures value { result ≡ returned (bfimax_outcome (spell_of last_day duration p) days.now base.old) }
+    ensures base_after { base.new ≡ bfimax_leaves (spell_of last_day duration p) days.now base.old }
+    ensures bfimax_after { bfimax.new ≡ handed_out (λ q. q) (bfimax_outcome (spell_of last_day duration p) days.now base.old) bfimax.old }
+{
+    baseflow::baseflow_bfimax(last_day, duration, p, days, base, bfimax)
+}
+
+// Recession ratios of the days at base, with every counted limb listed, the longest first.
+#[unsafe(no_mangle)]
+pub extern "C" fn baseflow_recession(
+    limb_days: u32,
+    days: &[u32],
+    base: &[u64],
+    limbs: &mut [u32],
+    ratio_count: &mut u32,
+    ratio: &mut u32,
+) -> u32
+    ensures value { result ≡ returned (ratio_outcome limb_days days.now base.now limbs.old) }
+    ensures limbs_after { limbs.new ≡ ratio_leaves limb_days days.now base.now limbs.old }
+    ensures ratio_count_after { ratio_count.new ≡ handed_out (λ s. s.count) (ratio_outcome limb_days days.now base.now limbs.old) ratio_count.old }
+    ensures ratio_after { ratio.new ≡ handed_out (λ s. s.median) (ratio_outcome limb_days days.now base.now limbs.old) ratio.old }
+{
+    baseflow::baseflow_recession(limb_days, days, base, limbs, ratio_count, ratio)
+}
+
+// Days until half is left, for p in thousandths.
+#[unsafe(no_mangle)]
+pub extern "C" fn baseflow_half_life(p: u32, days: &mut u32) -> u32
+    ensures value { result ≡ returned (half_life_outcome p) }
+    ensures days_after { days.new ≡ handed_out (λ n. n) (half_life_outcome p) days.old }
+{
+    baseflow::baseflow_half_life(p, days)
+}
+
+// The base value of one day more, with the state that goes from day to day.
+#[unsafe(no_mangle)]
+pub extern "C" fn baseflow_step(
+    method: u32,
+    p: u32,
+    q: u32,
+    s: i32,
+    day: u32,
+    has_yesterday: &mut u32,
+    flow: &mut u32,
+    base: &mut u64,
+    value: &mut u64,
+) -> u32
+    ensures value { result ≡ returned (step_rule (setting_of method p q s) (state_of has_yesterday.old flow.old base.old) day).outcome }
+    ensures has_yesterday_after { has_yesterday.new ≡ state_out (λ n. n.has) (step_rule (setting_of method p q s) (state_of has_yesterday.old flow.old base.old) day) has_yesterday.old }
+    ensures flow_after { flow.new ≡ state_out (λ n. n.flow) (step_rule (setting_of method p q s) (state_of has_yesterday.old flow.old base.old) day) flow.old }
+    ensures base_after { base.new ≡ state_out (λ n. n.base) (step_rule (setting_of method p q s) (state_of has_yesterday.old flow.old base.old) day) base.old }
+    ensures value_after { value.new ≡ value_out (step_rule (setting_of method p q s) (state_of has_yesterday.old flow.old base.old) day) value.old }
+{
+    baseflow::baseflow_step(method, p, q, s, day, has_yesterday, flow, base, value)
+}
