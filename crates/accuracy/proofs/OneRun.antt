@@ -1,6 +1,6 @@
 -- The run of the calls, one after the other: what the code answers and leaves is the run, and so carries demand 3.
 -- Assumes nothing.
-use Prim.Native.Nat.{ℕ, ◌≤◌, min}
+use Prim.Native.Nat.{ℕ, min}
 use mathlib.Core.Path.{◌≡◌, sym, ◌∙◌, ap, ap₂, subst}
 use mathlib.Core.List.{List, ◌++◌}
 use mathlib.Core.Option.{Option, none, some}
@@ -9,10 +9,10 @@ use native.Mathlib.Omega.{arith}
 use lib.ListN.{length, take, drop, take-append-drop}
 use lib.Seq.{take_at, length-take-le}
 use Rattle.series.specs.declared.Refusal.{Refusal}
-use Rattle.series.specs.Causes.{Cause, first_cause, refusal_number, Outcome, accepted, refused, leaves}
+use Rattle.series.specs.Causes.{Cause, first_cause, Outcome, accepted, refused, leaves}
 use Rattle.series.proofs.Refusing.{outcome_refused, outcome_accepted, leaves_refused, leaves_accepted, leaves_by}
 use Rattle.record.specs.Call.{reading, reply_of, read_leaves}
-use Rattle.record.proofs.Accepting.{Answered, answered, refused_so, list_length, stated_first}
+use Rattle.record.proofs.Accepting.{Answered, answered, stated_first}
 use Rattle.filter.specs.declared.Setting.{Setting}
 use Rattle.filter.specs.Call.{filter_causes, filter_leaves}
 use Rattle.filter.proofs.Calls.{leaves_filtered, leaves_as_it_was}
@@ -24,9 +24,8 @@ use Rattle.totals.specs.declared.Totals.{Totals}
 use Rattle.totals.specs.Call.{totals_outcome}
 use Rattle.accuracy.specs.declared.Choice.{Choice}
 use Rattle.accuracy.specs.declared.Choice.TheVariants.{Filter, Line}
-use Rattle.accuracy.specs.declared.BaseFlow.{BaseFlow}
+use Rattle.std.specs.Prelude.{Result, Ok}
 use Rattle.accuracy.specs.declared.Separation.{Separation}
-use Rattle.accuracy.specs.declared.Separation.TheVariants.{ReadingRefused, Days}
 use Rattle.accuracy.specs.Choosing.{chosen_causes, base_list}
 use Rattle.accuracy.specs.Call.{front, behind, base_flow_over, base_flow_leaves, after_reading, run, base_flow_of, run_of}
 use Rattle.accuracy.specs.Claim.{Demand3}
@@ -73,9 +72,6 @@ module _ (choice : Choice) (days base : List ℕ) {n : ℕ} (e : n ≡ min (leng
     lent_back : length b ≡ n
     lent_back = same_length ∙ length-take-le n base (omega (arith, min-le_right (length days) (length base)))
 
-    pub lent_again : n ≡ length (take n (b ++ drop n base))
-    lent_again = sym (ap length (take_at b (drop n base) n lent_back) ∙ lent_back)
-
     pub over_accepted : {t : Outcome Totals} → none ≡ first_cause (chosen_causes choice days (take n base)) → t ≡ totals_outcome days (take n (b ++ drop n base)) → accepted t ≡ base_flow_over choice days base
     unfolding base_flow_over
     over_accepted c u =
@@ -84,17 +80,11 @@ module _ (choice : Choice) (days base : List ℕ) {n : ℕ} (e : n ≡ min (leng
 
 -- the whole run, by what reading answers
 module _ (bytes : List ℕ) (choice : Choice) (days base : List ℕ) where
-  abbrev Promised : Separation → (days' base' : List ℕ) → Type 0
+  abbrev Promised : Result Separation Refusal → (days' base' : List ℕ) → Type 0
   Promised r days' base' = (run_of r days' base' ≡ run bytes choice days base) × Demand3 (length days) bytes choice base (run_of r days' base')
 
-  carried : (r : Separation) {days' base' : List ℕ} → run_of r days' base' ≡ run bytes choice days base → Promised r days' base'
+  carried : (r : Result Separation Refusal) {days' base' : List ℕ} → run_of r days' base' ≡ run bytes choice days base → Promised r days' base'
   carried r e = (e, subst (Demand3 (length days) bytes choice base) (sym e) (demand_3 bytes choice days base))
-
-  pub reading_refused : (k : Refusal) {days' : List ℕ} → refused (refusal_number k) ≡ reply_of (reading (length days) bytes) → days' ≡ read_leaves (reading (length days) bytes) days → Promised (ReadingRefused k) days' base
-  reading_refused k h l =
-      let e = refused_so (reading (length days) bytes) h in
-      let kept = l ∙ ap (λ o. read_leaves o days) e in
-      carried (ReadingRefused k) ((λ i. record { answer = refused (refusal_number k); days = kept i; base = base }) ∙ sym (ap (λ o. after_reading o choice days base) e))
 
   module _ (f n : ℕ) {days' : List ℕ} (h : accepted (record { first_day = f; day_count = n }) ≡ reply_of (reading (length days) bytes)) (l : days' ≡ read_leaves (reading (length days) bytes) days) where
     a : Answered (length days) bytes f n
@@ -106,11 +96,8 @@ module _ (bytes : List ℕ) (choice : Choice) (days base : List ℕ) where
     in_list : take n days' ≡ a.stated.days
     in_list = ap (take n) stored ∙ ap (λ k. take k (read_leaves (accepted a.stated) days)) (sym a.day_count) ∙ stated_first days a.stated
 
-    pub count_fits : n ≤ length days'
-    count_fits = omega (arith, a.day_count, a.holds.within_room, ap length l, list_length days bytes)
-
-    pub all_read : (r : BaseFlow) {base' : List ℕ} → base_flow_of r ≡ base_flow_over choice (take n days') base → base' ≡ base_flow_leaves choice (take n days') base → Promised (Days f n r) days' base'
+    pub all_read : (r : Result (Result Totals Refusal) Refusal) {base' : List ℕ} → base_flow_of r ≡ base_flow_over choice (take n days') base → base' ≡ base_flow_leaves choice (take n days') base → Promised (Ok (record { first_day = f; day_count = n; base_flow = r })) days' base'
     all_read r u v =
         let found = u ∙ ap (λ ds. base_flow_over choice ds base) in_list in
         let filled = v ∙ ap (λ ds. base_flow_leaves choice ds base) in_list in
-        carried (Days f n r) ((λ i. record { answer = accepted (record { first_day = sym a.first_day i; day_count = sym a.day_count i; base_flow = found i }); days = stored i; base = filled i }) ∙ sym (ap (λ o. after_reading o choice days base) a.reads))
+        carried (Ok (record { first_day = f; day_count = n; base_flow = r })) ((λ i. record { answer = accepted (record { first_day = sym a.first_day i; day_count = sym a.day_count i; base_flow = found i }); days = stored i; base = filled i }) ∙ sym (ap (λ o. after_reading o choice days base) a.reads))

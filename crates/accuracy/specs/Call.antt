@@ -1,17 +1,14 @@
 -- One run from the bytes to the index: reading, then the chosen call over the days that were read, then the totals over
 -- those days and the base list that it filled. Each stage says what it came to, and leaves its own buffer as it was where
 -- it refuses.
-use Rattle.std.specs.Prelude.{ℕ, min, List, ◌++◌, length, take, drop}
-use Rattle.series.specs.Causes.{refusal_number, Outcome, accepted, refused, by_outcome, map_outcome, outcome, leaves}
+use Rattle.std.specs.Prelude.{ℕ, min, List, ◌++◌, length, take, drop, Result}
+use Rattle.series.specs.Causes.{Outcome, outcome_of, by_outcome, map_outcome, outcome, leaves}
+use Rattle.series.specs.declared.Refusal.{Refusal}
 use Rattle.record.specs.Call.{Stated, reading, read_leaves}
 use Rattle.totals.specs.declared.Totals.{Totals}
-use Rattle.totals.specs.Call as totals
 use Rattle.totals.specs.Call.{totals_outcome}
 use Rattle.accuracy.specs.declared.Choice.{Choice}
-use Rattle.accuracy.specs.declared.BaseFlow.{BaseFlow}
-use Rattle.accuracy.specs.declared.BaseFlow.TheVariants.{Refused, Found}
 use Rattle.accuracy.specs.declared.Separation.{Separation}
-use Rattle.accuracy.specs.declared.Separation.TheVariants.{ReadingRefused, Days}
 use Rattle.accuracy.specs.Choosing.{chosen_causes, base_list}
 
 -- what follows where reading accepts: the first day and the number of days, and what base flow comes to, which is a refusal
@@ -54,15 +51,13 @@ after_reading o choice days base =
 abbrev pub run : (bytes : List ℕ) → Choice → (days base : List ℕ) → Run
 run bytes choice days base = after_reading (reading (length days) bytes) choice days base
 
--- document 01's numbers and values for each case of the answer
-abbrev pub base_flow_of : BaseFlow → Outcome (Outcome Totals)
-base_flow_of (Refused r) = refused (refusal_number r)
-base_flow_of (Found t) = accepted (totals.outcome_of t)
+-- the answer of the program as document 01's numbers and values
+abbrev pub base_flow_of : Result (Result Totals Refusal) Refusal → Outcome (Outcome Totals)
+base_flow_of r = map_outcome outcome_of (outcome_of r)
 
-abbrev pub outcome_of : Separation → Outcome Separated
-outcome_of (ReadingRefused r) = refused (refusal_number r)
-outcome_of (Days f n b) = accepted (record { first_day = f; day_count = n; base_flow = base_flow_of b })
+abbrev pub separated_of : Result Separation Refusal → Outcome Separated
+separated_of r = map_outcome (λ s. record { first_day = s.first_day; day_count = s.day_count; base_flow = base_flow_of s.base_flow }) (outcome_of r)
 
 -- a run of the code: its answer, and the lists that it leaves
-abbrev pub run_of : Separation → (days base : List ℕ) → Run
-run_of r days base = record { answer = outcome_of r; days = days; base = base }
+abbrev pub run_of : Result Separation Refusal → (days base : List ℕ) → Run
+run_of r days base = record { answer = separated_of r; days = days; base = base }

@@ -1,11 +1,11 @@
 -- The C interface (include/baseflow.h): what a function returns and writes, of what its call comes to.
-use Rattle.std.specs.Prelude.{ℕ, cond, eqb, ℤ}
+use Rattle.std.specs.Prelude.{ℕ, cond, eqb, ℤ, Some, None}
+use Rattle.std.specs.Prelude as Code
 use Rattle.std.proofs.Math.Option.{Option}
 use Rattle.series.specs.Units.{base_mark}
 use Rattle.series.specs.Causes.{Outcome, by_cause, by_outcome}
 use Rattle.filter.specs.declared.Setting.{Setting}
 use Rattle.filter.specs.declared.Yesterday.{Yesterday}
-use Rattle.filter.specs.declared.Yesterday.TheVariants.{Unknown, Known}
 use Rattle.filter.specs.declared.DailyFilter.{DailyFilter}
 use Rattle.filter.specs.Daily.{fresh, after}
 use Rattle.filter.specs.Call.{StepOutcome}
@@ -36,9 +36,9 @@ unfoldable pub state_of : (has flow base : ℕ) → DailyFilter
 state_of has flow base = cond (eqb has 0) fresh (after flow base)
 
 -- a state as it is handed out: 1 with yesterday's flow and base, or all three 0
-abbrev pub state_numbers : Yesterday → StateNumbers
-state_numbers Unknown = record { has = 0; flow = 0; base = 0 }
-state_numbers (Known y b) = record { has = 1; flow = y; base = b }
+abbrev pub state_numbers : Code.Option Yesterday → StateNumbers
+state_numbers None = record { has = 0; flow = 0; base = 0 }
+state_numbers (Some yesterday) = record { has = 1; flow = yesterday.flow; base = yesterday.base }
 
 -- one of the state's numbers at exit of a step, or what it was where the step refuses
 abbrev pub state_out : (StateNumbers → ℕ) → StepOutcome → ℕ → ℕ

@@ -1,6 +1,8 @@
 // The C interface (include/baseflow.h): each function makes one call, answers 0 or document 01's number of the refusal,
 // and writes what the call gives through its out-parameters. On a refusal it writes to none of them. The crate baseflow_c
 // exports them.
+// Kept: a list, a setting and a result as numbers of their own, side by side, since C passes and takes them so; and a
+// match for each call that has values, since its arm writes to out-parameters, which a closure could not do with as little text.
 #![tactic(auto)]
 
 ghost use Rattle.std.specs.Prelude.{◌≡◌, length};
@@ -15,17 +17,17 @@ ghost use Rattle.recession.specs.Call.{ratio_outcome, ratio_leaves};
 ghost use Rattle.half_life.specs.Call.{half_life_outcome};
 ghost use Rattle.baseflow.specs.Interface.{returned, returned_cause, handed_out, setting_of, line_setting_of, state_of, state_numbers, value_out, state_out};
 
-use filter::{DailyFilter, Setting, Step, Yesterday};
+use filter::{DailyFilter, Setting, Yesterday};
 use minima::LineSetting;
-use series::Verdict;
+use series::Refusal;
 
 // 0 for an accepted call, else the number of its refusal.
-fn number(verdict: Verdict) -> u32
-    ensures { result ≡ returned_cause (refusal_of verdict) }
+fn number(answer: Result<(), Refusal>) -> u32
+    ensures { result ≡ returned_cause (refusal_of answer) }
 {
-    match verdict {
-        Verdict::Accepted => 0,
-        Verdict::Refused(refusal) => refusal.number(),
+    match answer {
+        Ok(()) => 0,
+        Err(refusal) => refusal.number(),
     }
 }
 
@@ -41,17 +43,13 @@ pub fn baseflow_read(
     ensures first_day_after { first_day.new ≡ handed_out (λ s. s.first_day) (reply_of (reading (length days.old) bytes.now)) first_day.old }
     ensures day_count_after { day_count.new ≡ handed_out (λ s. s.day_count) (reply_of (reading (length days.old) bytes.now)) day_count.old }
 {
-    let answer = record::read(bytes, days);
-    match answer {
-        record::Answer::Refused(refusal) => refusal.number(),
-        record::Answer::Stated {
-            first_day: first,
-            day_count: count,
-        } => {
-            *first_day = first;
-            *day_count = count;
+    match record::read(bytes, days) {
+        Ok(stated) => {
+            *first_day = stated.first_day;
+            *day_count = stated.day_count;
             0
         }
+        Err(refusal) => refusal.number(),
     }
 }
 
@@ -115,10 +113,8 @@ pub fn baseflow_totals(
     ensures quick_total_after { quick_total.new ≡ handed_out (λ t. t.quick) (totals_outcome days.now base.now) quick_total.old }
     ensures index_after { index.new ≡ handed_out (λ t. t.index) (totals_outcome days.now base.now) index.old }
 {
-    let answer = totals::total(days, base);
-    match answer {
-        totals::Answer::Refused(refusal) => refusal.number(),
-        totals::Answer::Summed(t) => {
+    match totals::total(days, base) {
+        Ok(t) => {
             *base_days = t.days;
             *flow_total = t.flow;
             *base_total = t.base;
@@ -126,6 +122,7 @@ pub fn baseflow_totals(
             *index = t.index;
             0
         }
+        Err(refusal) => refusal.number(),
     }
 }
 
@@ -142,13 +139,12 @@ pub fn baseflow_bfimax(
     ensures base_after { base.new ≡ bfimax_leaves (spell_of last_day duration p) days.now base.old }
     ensures bfimax_after { bfimax.new ≡ handed_out (λ q. q) (bfimax_outcome (spell_of last_day duration p) days.now base.old) bfimax.old }
 {
-    let answer = bfimax::bfimax(last_day, duration, p, days, base);
-    match answer {
-        bfimax::Answer::Refused(refusal) => refusal.number(),
-        bfimax::Answer::Found(found) => {
+    match bfimax::bfimax(last_day, duration, p, days, base) {
+        Ok(found) => {
             *bfimax = found;
             0
         }
+        Err(refusal) => refusal.number(),
     }
 }
 
@@ -166,14 +162,13 @@ pub fn baseflow_recession(
     ensures ratio_count_after { ratio_count.new ≡ handed_out (λ s. s.count) (ratio_outcome limb_days days.now base.now limbs.old) ratio_count.old }
     ensures ratio_after { ratio.new ≡ handed_out (λ s. s.median) (ratio_outcome limb_days days.now base.now limbs.old) ratio.old }
 {
-    let answer = recession::ratios(limb_days, days, base, limbs);
-    match answer {
-        recession::Answer::Refused(refusal) => refusal.number(),
-        recession::Answer::Ratios { count, median } => {
-            *ratio_count = count;
-            *ratio = median;
+    match recession::ratios(limb_days, days, base, limbs) {
+        Ok(ratios) => {
+            *ratio_count = ratios.count;
+            *ratio = ratios.median;
             0
         }
+        Err(refusal) => refusal.number(),
     }
 }
 
@@ -182,48 +177,48 @@ pub fn baseflow_half_life(p: u32, days: &mut u32) -> u32
     ensures value { result ≡ returned (half_life_outcome p) }
     ensures days_after { days.new ≡ handed_out (λ n. n) (half_life_outcome p) days.old }
 {
-    let answer = half_life::half_life(p);
-    match answer {
-        half_life::Answer::Refused(refusal) => refusal.number(),
-        half_life::Answer::Days(n) => {
+    match half_life::half_life(p) {
+        Ok(n) => {
             *days = n;
             0
         }
+        Err(refusal) => refusal.number(),
     }
 }
 
-// The daily step's state in three numbers.
+// The daily step's state in three numbers, which C takes and is handed.
 #[derive(Clone, Copy)]
 struct StateNumbers {
+    // Kept: a flag beside flow and base, as the C interface has it.
     has: u32,
     flow: u32,
     base: u64,
 }
 
-// The state that three numbers stand for.
-fn state_of(has: u32, flow: u32, base: u64) -> DailyFilter
-    ensures { result ≡ state_of has flow base }
-{
-    if has == 0 {
-        return DailyFilter::fresh();
-    }
-    DailyFilter {
-        yesterday: Yesterday::Known { flow, base },
+impl From<StateNumbers> for DailyFilter {
+    ghost from_gives = { λ n state. state ≡ state_of n.has n.flow n.base };
+
+    #[tactic(auto, unfolding(crate::specs::Interface::state_of))]
+    fn from(numbers: StateNumbers) -> Self {
+        let StateNumbers { has, flow, base } = numbers;
+        DailyFilter {
+            yesterday: (has != 0).then_some(Yesterday { flow, base }),
+        }
     }
 }
 
-// The three numbers of a state.
-fn numbers_of(state: DailyFilter) -> StateNumbers
-    ensures { (result.has ≡ (state_numbers state.yesterday).has) × (result.flow ≡ (state_numbers state.yesterday).flow) × (result.base ≡ (state_numbers state.yesterday).base) }
-{
-    let yesterday = state.yesterday;
-    match yesterday {
-        Yesterday::Unknown => StateNumbers {
-            has: 0,
-            flow: 0,
-            base: 0,
-        },
-        Yesterday::Known { flow, base } => StateNumbers { has: 1, flow, base },
+impl From<DailyFilter> for StateNumbers {
+    ghost from_gives = { λ state n. n ≡ state_numbers state.yesterday };
+
+    fn from(state: DailyFilter) -> Self {
+        match state.yesterday {
+            None => StateNumbers {
+                has: 0,
+                flow: 0,
+                base: 0,
+            },
+            Some(Yesterday { flow, base }) => StateNumbers { has: 1, flow, base },
+        }
     }
 }
 
@@ -245,21 +240,21 @@ pub fn baseflow_step(
     ensures base_after { base.new ≡ state_out (λ n. n.base) (step_rule (setting_of method p q s) (state_of has_yesterday.old flow.old base.old) day) base.old }
     ensures value_after { value.new ≡ value_out (step_rule (setting_of method p q s) (state_of has_yesterday.old flow.old base.old) day) value.old }
 {
-    let state = state_of(*has_yesterday, *flow, *base);
+    let state = DailyFilter::from(StateNumbers {
+        has: *has_yesterday,
+        flow: *flow,
+        base: *base,
+    });
     let setting = Setting { method, p, q, s };
-    let step = state.step(setting, day);
-    match step {
-        Step::Refused { refusal, state: _ } => refusal.number(),
-        Step::Next {
-            state: next,
-            base: b,
-        } => {
-            let numbers = numbers_of(next);
+    match state.step(setting, day) {
+        Ok(next) => {
+            let numbers = StateNumbers::from(next.state);
             *has_yesterday = numbers.has;
             *flow = numbers.flow;
             *base = numbers.base;
-            *value = b;
+            *value = next.base;
             0
         }
+        Err(refused) => refused.refusal.number(),
     }
 }

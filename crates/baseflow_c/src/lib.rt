@@ -1,5 +1,6 @@
 // The archive that C programs link (include/baseflow.h): each export makes baseflow's call of the same name, and promises
 // what that promises.
+// Kept: a function for each call, alike but for names, since C links them by name and each has its own parameters.
 #![tactic(auto)]
 
 ghost use Rattle.std.specs.Prelude.{◌≡◌, length};

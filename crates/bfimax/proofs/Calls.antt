@@ -1,55 +1,50 @@
 -- The call by its causes: what an accepted call has passed, and what it answers and leaves.
 -- Assumes nothing.
 use Prim.Native.Nat.{ℕ, zero, suc, ◌+◌, ◌-◌, ◌≤◌, ◌<◌}
-use mathlib.Core.Path.{◌≡◌, refl, sym, ◌∙◌, ap, ap₂}
-use mathlib.Core.Bool.{Bool, true, false, ◌||◌}
+use mathlib.Core.Path.{◌≡◌, refl, sym, ◌∙◌, ap, ap₂, subst}
+use mathlib.Core.Bool.{Bool, true, false, ◌||◌, or-true}
+use Rattle.std.specs.List.{list_any}
+use Rattle.std.specs.Prelude.{nat_eq}
 use mathlib.Core.Logic.{⊎_elim}
 use mathlib.Core.List.{List, [], ◌∷◌, ◌++◌, append_assoc}
 use mathlib.Core.Option.{none, some, or_else}
 use native.Mathlib.Nat.{lt_of_not-le}
 use native.Mathlib.Decide.{dec_le}
 use native.Mathlib.Omega.{arith}
-use borrow.Author.Tests.{le-leb, lt-leb, lt-ltb, le-ltb, leb-false, ltb-false, eq-eqb, ne_eqb}
-use lib.Dec.{leb, ltb}
-use lib.ListN.{length, get_or, take, drop, replicate, length-append, length-take, length-drop, length-replicate, get_or-eq_default}
+use borrow.Author.Tests.{le-leb, lt-leb, lt-ltb, le-ltb, leb-false, ltb-false, eq-eqb, ne_eqb, eqb-true}
+use lib.Dec.{leb, ltb, eqb}
+use lib.ListN.{length, get_or, take, drop, replicate, length-take, length-drop, length-replicate, get_or-eq_default}
 use lib.Seq.{get_or-take, get_or-drop, drop-drop}
-use Rattle.series.specs.Units.{no_value_mark, is_missing, is_invalid_day}
-use Rattle.series.specs.Lists.{any_invalid_day}
+use Rattle.series.specs.Units.{missing_mark, no_value_mark, is_missing, is_invalid_day}
+use Rattle.series.specs.Lists.{any_invalid_day, list_causes}
 use Rattle.numbers.specs.Arithmetic.{rounded}
 use Rattle.series.specs.declared.Refusal.{Refusal}
-use Rattle.series.specs.declared.Verdict.{Verdict}
-use Rattle.series.specs.declared.Verdict.TheVariants.{Refused}
-use Rattle.series.specs.Causes.{refusal_number, cause, first_cause, accepted, refused, Decides}
-use Rattle.series.proofs.Refusing.{passed, first_append, decides_alone, decided_refused, outcome_refused, outcome_accepted, leaves_refused, leaves_accepted}
+use Rattle.std.specs.Prelude.{Result, Ok, Err}
+use Rattle.series.specs.Causes.{refusal_number, Cause, cause, first_cause, accepted, refused, Decides}
+use Rattle.series.proofs.Refusing.{passed, first_append, decides_alone, decided_refused, decided_accepted, outcome_refused, outcome_accepted, leaves_refused, leaves_accepted}
 use Rattle.series.proofs.Tests.{few_days, same_length}
 use Rattle.series.proofs.Views.{neither_of, valid_day, valid_at, not_outside, missing_is_mark}
 use Rattle.bfimax.specs.Rule.{flow_total, values, bfimax}
-use Rattle.bfimax.specs.Call.{spell, any_missing, no_spell, no_flow, Spell, flows_of, bfimax_causes, bfimax_outcome, spell_list, bfimax_leaves}
-use Rattle.bfimax.specs.Private.{Flows, day_causes}
-use Rattle.bfimax.proofs.Spells.{values_length}
+use Rattle.bfimax.specs.Call.{spell, any_missing, no_spell, no_flow, Spell, spell_of, bfimax_causes, bfimax_outcome, spell_list, bfimax_leaves}
+use Rattle.bfimax.specs.Private.{SpellFrom, Flows, first_causes}
+use Rattle.bfimax.proofs.Spells.{missing_any, values_length}
 
 -- 24, as the code tests it
 module _ (last D : ℕ) (days : List ℕ) where
-  pub not_listed : length days ≤ last → true ≡ no_spell last D days
+  pub before_list : (D ≤ last + 1 → ⊥) → no_spell last D days ≡ true
   unfolding no_spell
-  not_listed h = rw (le-leb (length days) last h)
+  before_list g = rw (lt-ltb (suc last) D (omega arith)) (or-true (leb (length days) last))
 
-  module _ (h : last < length days) where
-    pub before_list : last + 1 < D → true ≡ no_spell last D days
-    unfolding no_spell
-    before_list g = rw (lt-leb (length days) last h, lt-ltb (suc last) D (omega arith))
+  pub not_listed : length days < last + 1 → no_spell last D days ≡ true
+  unfolding no_spell
+  not_listed h = rw (le-leb (length days) last (omega arith))
 
-    -- the slice that the code takes
-    pub slice : D ≤ last + 1 → take (last + 1 - (last + 1 - D)) (drop (last + 1 - D) days) ≡ spell last D days
-    unfolding spell
-    slice g =
-        let n : last + 1 - (last + 1 - D) ≡ D = omega arith in
-        let f : last + 1 - D ≡ suc last - D = omega arith in
-        ap₂ (λ a b. take a (drop b days)) n f
-
-    pub in_list : (g : D ≤ last + 1) {b : Bool} → b ≡ any_missing (take (last + 1 - (last + 1 - D)) (drop (last + 1 - D) days)) → b ≡ no_spell last D days
-    unfolding no_spell
-    in_list g e = rw (lt-leb (length days) last h, le-ltb (suc last) D (omega arith)) (e ∙ ap any_missing (slice g))
+  pub in_list : {start : ℕ} {flows : List ℕ} {b : Bool} → D ≤ last + 1 → start ≡ last + 1 - D → last + 1 ≤ length days → flows ≡ take (last + 1 - start) (drop start days) → b ≡ list_any (λ y. nat_eq y missing_mark) flows → b ≡ no_spell last D days
+  unfolding no_spell spell
+  in_list {start} g e h f t =
+      let n : last + 1 - start ≡ D = omega arith in
+      let s : start ≡ suc last - D = omega arith in
+      rw (lt-leb (length days) last (omega arith), le-ltb (suc last) D (omega arith)) (t ∙ ap (list_any (λ y. nat_eq y missing_mark)) (f ∙ ap₂ (λ a b. take a (drop b days)) n s) ∙ missing_any (take D (drop (suc last - D) days)))
 
 -- where it does not hold
 pub record InList (last D : ℕ) (days : List ℕ) : Type 0 where
@@ -91,88 +86,134 @@ spell_flows {last} {D} {days} few valid l = (spell_size l, record { few = omega 
         let inside : i < D = omega (arith, spell_size l, lt_of_not-le g) in
         flow_small (get_or (spell last D days) i 0) (rw (spell_at l i inside) (valid_at days (suc last - D + i) valid (omega (arith, l.listed, l.behind_start)))) (missing_at (spell last D days) i l.present (lt_of_not-le g))
 
--- what an accepted check has passed
-pub record Checked (s : Spell) (days base : List ℕ) : Type 0 where
-  pub above : 0 < s.p
-  pub most : s.p ≤ 9999
-  pub two : 2 ≤ s.duration
-  pub long : s.duration ≤ 3650
+-- what the checks have passed
+pub record Passed (D p : ℕ) (days base : List ℕ) : Type 0 where
+  pub above : 0 < p
+  pub most : p ≤ 9999
+  pub two : 2 ≤ D
+  pub long : D ≤ 3650
   pub few : length days ≤ 36525
   pub same : length days ≡ length base
   pub valid : any_invalid_day days ≡ false
-  pub in_list : InList s.last s.duration days
 
-module _ (s : Spell) (days base : List ℕ) where
-  pub checked : first_cause (day_causes s days base) ≡ none → Checked s days base
-  unfolding bfimax_causes
-  checked e =
-      let q = passed (day_causes s days base) e in
-      let a = not_outside 1 9999 s.p (q 12) in
-      let d = not_outside 2 3650 s.duration (q 23) in
-      record { above = omega (arith, a.0); most = a.1; two = d.0; long = d.1; few = few_days days (q 9); same = same_length days base (q 14); valid = q 10; in_list = in_list_if s.last s.duration days (q 24) }
+pub passed_checks : {D p : ℕ} {days base : List ℕ} {v : Result Unit Refusal} → Decides (first_causes D p days base) v → v ≡ Ok tt → Passed D p days base
+unfolding bfimax_causes
+passed_checks {D} {p} {days} {base} d e =
+    let q = passed (first_causes D p days base) (decided_accepted d e) in
+    let a = not_outside 1 9999 p (q 12) in
+    let b = not_outside 2 3650 D (q 23) in
+    record { above = omega (arith, a.0); most = a.1; two = b.0; long = b.1; few = few_days days (q 9); same = same_length days base (q 14); valid = q 10 }
 
-  -- the whole list of causes, by the last
-  last_cause : first_cause (day_causes s days base) ≡ none → first_cause (bfimax_causes s days base) ≡ first_cause (cause (no_flow (flows_of s days)) 21 ∷ [])
-  unfolding bfimax_causes or_else
-  last_cause e = first_append (day_causes s days base) (cause (no_flow (flows_of s days)) 21 ∷ []) ∙ ap (λ o. or_else o (first_cause (cause (no_flow (flows_of s days)) 21 ∷ []))) e
+-- what the call answers and leaves, cause by cause
+module _ (last D p : ℕ) (days base : List ℕ) where
+  abbrev given : Spell
+  given = spell_of last D p
 
-  abbrev Refuses : ℕ → Type 0
-  Refuses n = (refused n ≡ bfimax_outcome s days base) × (base ≡ bfimax_leaves s days base)
+  abbrev last_causes : List Cause
+  last_causes = cause (no_spell last D days) 24 ∷ cause (no_flow (spell last D days)) 21 ∷ []
 
-  by_first : {n : ℕ} → first_cause (bfimax_causes s days base) ≡ some n → Refuses n
-  unfolding bfimax_outcome bfimax_leaves
-  by_first e = (sym (outcome_refused (bfimax_causes s days base) _ e), sym (leaves_refused (bfimax_causes s days base) _ base e))
+  in_order : bfimax_causes given days base ≡ first_causes D p days base ++ last_causes
+  unfolding bfimax_causes list_causes
+  in_order = refl
 
-  pub out_refused : {v : Verdict} {r : Refusal} → Decides (day_causes s days base) v → v ≡ Refused r → Refuses (refusal_number r)
-  unfolding bfimax_causes
-  out_refused d e = by_first (decided_refused (decides_alone (cause (no_flow (flows_of s days)) 21 ∷ []) d e) refl)
+  module _ {n : ℕ} (e : first_cause (bfimax_causes given days base) ≡ some n) where
+    refused_answer : refused n ≡ bfimax_outcome given days base
+    unfolding bfimax_outcome
+    refused_answer = sym (outcome_refused (bfimax_causes given days base) _ e)
 
-  module _ (e : first_cause (day_causes s days base) ≡ none) where
-    pub out_dry : flow_total (flows_of s days) ≡ 0 → Refuses 21
-    unfolding no_flow
-    out_dry z = by_first (last_cause e ∙ ap (λ b. first_cause (cause b 21 ∷ [])) (eq-eqb (flow_total (flows_of s days)) 0 z))
+    refused_list : base ≡ bfimax_leaves given days base
+    unfolding bfimax_leaves
+    refused_list = sym (leaves_refused (bfimax_causes given days base) _ base e)
 
-    pub out_found : {q : ℕ} {exit : List ℕ} → (flow_total (flows_of s days) ≡ 0 → ⊥) → q ≡ bfimax rounded s.p (flows_of s days) → exit ≡ spell_list s days → (accepted q ≡ bfimax_outcome s days base) × (exit ≡ bfimax_leaves s days base)
-    unfolding bfimax_outcome bfimax_leaves no_flow
-    out_found z f g =
-        let no_cause = last_cause e ∙ ap (λ b. first_cause (cause b 21 ∷ [])) (ne_eqb (flow_total (flows_of s days)) 0 z) in
-        (ap accepted f ∙ sym (outcome_accepted (bfimax_causes s days base) _ no_cause), g ∙ sym (leaves_accepted (bfimax_causes s days base) _ base no_cause))
+  -- the checks refuse
+  module _ {v : Result Unit Refusal} {r : Refusal} (d : Decides (first_causes D p days base) v) (e : v ≡ Err r) where
+    by_checks : first_cause (bfimax_causes given days base) ≡ some (refusal_number r)
+    by_checks = ap first_cause in_order ∙ decided_refused (decides_alone last_causes d e) refl
 
--- the values put into the cleared list, as the code does
-module _ {s : Spell} {days base : List ℕ} (k : Checked s days base) where
-  abbrev from : ℕ
-  from = s.last + 1 - s.duration
+    pub checks_answer : refused (refusal_number r) ≡ bfimax_outcome given days base
+    checks_answer = refused_answer by_checks
 
-  abbrev size : ℕ
-  size = s.last + 1 - from
+    checks_list : base ≡ bfimax_leaves given days base
+    checks_list = refused_list by_checks
 
-  pub flows_size : (length (flows_of s days) ≡ s.duration) × Flows (flows_of s days)
-  flows_size = spell_flows k.long k.valid k.in_list
+  pub list_kept : {v : Result Unit Refusal} → Decides (first_causes D p days base) v → (v ≡ Ok tt → ⊥) → base ≡ bfimax_leaves given days base
+  list_kept {v = Ok u} d n = absurd (n refl)
+  list_kept {v = Err r} d n = checks_list d refl
 
-  pub put_spell : {cleared ys : List ℕ} → cleared ≡ replicate (length base) no_value_mark → ys ≡ values rounded s.p (flows_of s days) → take from cleared ++ (ys ++ drop size (drop from cleared)) ≡ spell_list s days
-  unfolding spell_list
-  put_spell {cleared} {ys} e f =
-      let at : from ≡ suc s.last - s.duration = omega arith in
-      let all : cleared ≡ replicate (length days) no_value_mark = e ∙ ap (λ n. replicate n no_value_mark) (sym k.same) in
-      let end : from + size ≡ suc s.last - s.duration + length ys = omega (arith, k.in_list.behind_start, ap length f, values_length s.p (flows_of s days), flows_size.0) in
-      ap (λ r. take from cleared ++ (ys ++ r)) (drop-drop size from cleared ∙ ap (λ n. drop n cleared) end)
-      ∙ ap (λ n. take n cleared ++ (ys ++ drop (suc s.last - s.duration + length ys) cleared)) at
-      ∙ ap₂ (λ c v. take (suc s.last - s.duration) c ++ (v ++ drop (suc s.last - s.duration + length v) c)) all f
-      ∙ sym (append_assoc (take (suc s.last - s.duration) (replicate (length days) no_value_mark)) (values rounded s.p (flows_of s days)) (drop (suc s.last - s.duration + length (values rounded s.p (flows_of s days))) (replicate (length days) no_value_mark)))
+  -- and behind them
+  module _ {v : Result Unit Refusal} (d : Decides (first_causes D p days base) v) (e : v ≡ Ok tt) where
+    behind_checks : first_cause (bfimax_causes given days base) ≡ first_cause last_causes
+    unfolding or_else
+    behind_checks = ap first_cause in_order ∙ first_append (first_causes D p days base) last_causes ∙ ap (λ o. or_else o (first_cause last_causes)) (decided_accepted d e)
 
-  -- the two parts of one size
-  pub same_sizes : {cleared : List ℕ} → cleared ≡ replicate (length base) no_value_mark → (0 < length (take size (drop from days))) × (length (take size (drop from days)) ≡ length (take size (drop from cleared)))
-  same_sizes {cleared} e =
-      let whole : length cleared ≡ length days = ap length e ∙ length-replicate (length base) no_value_mark ∙ sym k.same in
-      let a = length-take size (drop from days) in
-      let b = length-take size (drop from cleared) in
-      (omega (arith, a, length-drop from days, k.two, k.in_list.listed, k.in_list.behind_start), omega (arith, a, b, length-drop from days, length-drop from cleared, whole))
+    module _ (h : no_spell last D days ≡ true) where
+      pub no_spell_answer : refused 24 ≡ bfimax_outcome given days base
+      no_spell_answer = refused_answer (behind_checks ∙ rw h)
 
-  pub spell_list_length : length (spell_list s days) ≡ length days
-  unfolding spell_list
-  spell_list_length =
-      let R = replicate (length days) no_value_mark in
-      let v = values rounded s.p (flows_of s days) in
-      let n = suc s.last - s.duration in
-      length-append (take n R ++ v) (drop (n + length v) R)
-      ∙ omega (arith, length-append (take n R) v, length-take n R, length-drop (n + length v) R, length-replicate (length days) no_value_mark, values_length s.p (flows_of s days), flows_size.0, k.in_list.listed, k.in_list.behind_start)
+      pub no_spell_list : base ≡ bfimax_leaves given days base
+      no_spell_list = refused_list {n = 24} (behind_checks ∙ rw h)
+
+    module _ (h : no_spell last D days ≡ false) where
+      by_flow : flow_total (spell last D days) ≡ 0 → first_cause (bfimax_causes given days base) ≡ some 21
+      unfolding no_flow
+      by_flow z = behind_checks ∙ rw (h, eq-eqb (flow_total (spell last D days)) 0 z)
+
+      accepts : (flow_total (spell last D days) ≡ 0 → ⊥) → first_cause (bfimax_causes given days base) ≡ none
+      unfolding no_flow
+      accepts n = behind_checks ∙ rw (h, ne_eqb (flow_total (spell last D days)) 0 n)
+
+-- the days of the spell as the code takes them
+module _ {last D start size : ℕ} {days : List ℕ} (f : SpellFrom last D days start) (z : size ≡ D) where
+  from : start ≡ suc last - D
+  from = omega (arith, f.begins)
+
+  slice : take size (drop start days) ≡ spell last D days
+  unfolding spell
+  slice = ap₂ (λ n m. take n (drop m days)) z from
+
+  -- by the flow total
+  module _ (p : ℕ) (base : List ℕ) {v : Result Unit Refusal} (d : Decides (first_causes D p days base) v) (e : v ≡ Ok tt) where
+    module _ {total : ℕ} (g : total ≡ flow_total (take size (drop start days))) (t : eqb total 0 ≡ true) where
+      by_slice : first_cause (bfimax_causes (spell_of last D p) days base) ≡ some 21
+      by_slice = by_flow last D p days base d e f.found (sym (ap flow_total slice) ∙ sym g ∙ eqb-true total 0 t)
+
+      pub dry_answer : refused 21 ≡ bfimax_outcome (spell_of last D p) days base
+      dry_answer = refused_answer last D p days base by_slice
+
+      pub dry_list : base ≡ bfimax_leaves (spell_of last D p) days base
+      dry_list = refused_list last D p days base by_slice
+
+    module _ (n : flow_total (take size (drop start days)) ≡ 0 → ⊥) where
+      no_cause : first_cause (bfimax_causes (spell_of last D p) days base) ≡ none
+      no_cause = accepts last D p days base d e f.found (λ t. n (ap flow_total slice ∙ t))
+
+      pub found_answer : {q : ℕ} → q ≡ bfimax rounded p (take size (drop start days)) → accepted q ≡ bfimax_outcome (spell_of last D p) days base
+      unfolding bfimax_outcome
+      found_answer g = ap accepted (g ∙ ap (bfimax rounded p) slice) ∙ sym (outcome_accepted (bfimax_causes (spell_of last D p) days base) _ no_cause)
+
+      pub found_list : {exit : List ℕ} → exit ≡ spell_list (spell_of last D p) days → exit ≡ bfimax_leaves (spell_of last D p) days base
+      unfolding bfimax_leaves
+      found_list g = g ∙ sym (leaves_accepted (bfimax_causes (spell_of last D p) days base) _ base no_cause)
+
+  -- their flows, and the values put into the cleared list
+  module _ {p : ℕ} {base : List ℕ} (k : Passed D p days base) where
+    flows_size : (length (spell last D days) ≡ D) × Flows (spell last D days)
+    flows_size = spell_flows k.long k.valid (in_list_if last D days f.found)
+
+    pub slice_flows : Flows (take size (drop start days))
+    slice_flows = subst Flows (sym slice) flows_size.1
+
+    module _ {cleared : List ℕ} (e : cleared ≡ replicate (length base) no_value_mark) where
+      pub same_sizes : length (take size (drop start days)) ≡ length (take size (drop start cleared))
+      same_sizes = omega (arith, length-take size (drop start days), length-drop start days, length-take size (drop start cleared), length-drop start cleared, ap length e, length-replicate (length base) no_value_mark, k.same)
+
+      pub put_spell : {ys : List ℕ} → ys ≡ values rounded p (take size (drop start days)) → take start cleared ++ (ys ++ drop size (drop start cleared)) ≡ spell_list (spell_of last D p) days
+      unfolding spell_list
+      put_spell {ys} v =
+          let w : ys ≡ values rounded p (spell last D days) = v ∙ ap (values rounded p) slice in
+          let all : cleared ≡ replicate (length days) no_value_mark = e ∙ ap (λ n. replicate n no_value_mark) (sym k.same) in
+          let end : start + size ≡ suc last - D + length ys = omega (arith, z, from, ap length w, values_length p (spell last D days), flows_size.0) in
+          ap (λ r. take start cleared ++ (ys ++ r)) (drop-drop size start cleared ∙ ap (λ n. drop n cleared) end)
+          ∙ ap (λ n. take n cleared ++ (ys ++ drop (suc last - D + length ys) cleared)) from
+          ∙ ap₂ (λ c v. take (suc last - D) c ++ (v ++ drop (suc last - D + length v) c)) all w
+          ∙ sym (append_assoc (take (suc last - D) (replicate (length days) no_value_mark)) (values rounded p (spell last D days)) (drop (suc last - D + length (values rounded p (spell last D days))) (replicate (length days) no_value_mark)))

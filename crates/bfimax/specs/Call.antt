@@ -4,11 +4,9 @@ use Rattle.numbers.specs.Lists.{stored}
 use Rattle.numbers.specs.Arithmetic.{rounded}
 use Rattle.series.specs.Units.{no_value_mark, is_missing, within}
 use Rattle.series.specs.Lists.{too_long, lengths_differ, any_invalid_day}
-use Rattle.series.specs.Causes.{Cause, cause, Outcome, accepted, refused, outcome, leaves, refusal_number}
+use Rattle.series.specs.Causes.{Cause, cause, Outcome, accepted, refused, outcome, leaves}
 use Rattle.bfimax.specs.Rule.{flow_total, values, bfimax}
 use Rattle.bfimax.specs.Distance.{SpellWithin}
-use Rattle.bfimax.specs.declared.Answer.{Answer}
-use Rattle.bfimax.specs.declared.Answer.TheVariants.{Found, Refused}
 
 -- the position of the first of D days that end on the last day, and these days
 abbrev pub spell_start : (last D : ℕ) → ℕ
@@ -65,11 +63,6 @@ spell_list s days = stored (replicate (length days) no_value_mark) (spell_start 
 -- the base list at exit: that, or as it was after a refusal
 unfoldable pub bfimax_leaves : Spell → (days base : List ℕ) → List ℕ
 bfimax_leaves s days base = leaves (bfimax_causes s days base) (spell_list s days) base
-
--- the number or the value of each answer
-abbrev pub outcome_of : Answer → Outcome ℕ
-outcome_of (Found q) = accepted q
-outcome_of (Refused r) = refused (refusal_number r)
 
 -- what an accepted call promises of its values beside those of the exact run
 abbrev pub Promised : Outcome ℕ → (p : ℕ) → List ℕ → Type 0

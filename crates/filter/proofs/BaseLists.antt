@@ -6,7 +6,7 @@ use mathlib.Core.Bool.{false}
 use mathlib.Core.List.{List, map}
 use mathlib.Core.Option.{some}
 use native.Mathlib.Omega.{arith}
-use Rattle.numbers.specs.Arithmetic.{rounded, Weights}
+use Rattle.numbers.specs.Arithmetic.{rounded}
 use Rattle.series.specs.Units.{day_of, base_mark}
 use Rattle.series.specs.Lists.{any_invalid_day}
 use Rattle.series.proofs.Views.{valid_days}
@@ -47,12 +47,12 @@ module _ {s : Setting} (u : Usable s) (days : List ℕ) (valid : any_invalid_day
     pub after_1 : n ≡ 1 → b₁ ≡ filtered_list s n days
     after_1 h = rw h first
 
-    module _ {w : Weights} (e : w ≡ weights s) {b₂ : List ℕ} (e₂ : b₂ ≡ backward_run w b₁) where
+    module _ {b₂ : List ℕ} (e₂ : b₂ ≡ backward_run (weights s) b₁) where
       pub after_2 : n ≡ 2 → b₂ ≡ filtered_list s n days
-      after_2 h = rw (h, e₂, e, first) second
+      after_2 h = rw (h, e₂, first) second
 
-      pub after_3 : {b₃ : List ℕ} → b₃ ≡ forward_run w b₂ → invalid_passes s n ≡ false → (n ≡ 1 → ⊥) → (n ≡ 2 → ⊥) → b₃ ≡ filtered_list s n days
+      pub after_3 : {b₃ : List ℕ} → b₃ ≡ forward_run (weights s) b₂ → invalid_passes s n ≡ false → (n ≡ 1 → ⊥) → (n ≡ 2 → ⊥) → b₃ ≡ filtered_list s n days
       after_3 e₃ v h₁ h₂ =
           let r = passes_range s n v in
           let three : n ≡ 3 = omega arith in
-          rw (three, e₃, e₂, e, first, second) (third (rw three at v))
+          rw (three, e₃, e₂, first, second) (third (rw three at v))

@@ -2,7 +2,7 @@
 -- Assumes nothing.
 use Prim.Native.Nat.{ℕ, ◌≤◌}
 use mathlib.Core.Path.{◌≡◌, refl, sym, ◌∙◌}
-use mathlib.Core.Bool.{true, false}
+use mathlib.Core.Bool.{false}
 use mathlib.Core.List.{List}
 use mathlib.Core.Option.{none, some}
 use lib.IntN.{pos}
@@ -77,23 +77,6 @@ module _ (s : Setting) (st : DailyFilter) (day : ℕ) where
   step_accepted e =
       let p = passed (step_causes s st day) e in
       record { usable = record { known = p 11; in_range = p 12 }; valid_state = p 15; valid_day = p 10 }
-
-  -- a setting refuses at once; behind one that can be used, the state and the day decide
-  pub unknown_first : unknown_method s ≡ true → first_cause (step_causes s st day) ≡ some 11
-  unfolding step_causes
-  unknown_first e = rw e
-
-  pub range_first : unknown_method s ≡ false → out_of_range s ≡ true → first_cause (step_causes s st day) ≡ some 12
-  unfolding step_causes
-  range_first e h = rw (e, h)
-
-  pub state_first : Usable s → invalid_yesterday st.yesterday ≡ true → first_cause (step_causes s st day) ≡ some 15
-  unfolding step_causes
-  state_first u e = rw (u.known, u.in_range, e)
-
-  pub day_first : Usable s → invalid_yesterday st.yesterday ≡ false → is_invalid_day day ≡ true → first_cause (step_causes s st day) ≡ some 10
-  unfolding step_causes
-  day_first u e h = rw (u.known, u.in_range, e, h)
 
   -- what it hands out
   pub hands_back : {k : ℕ} → first_cause (step_causes s st day) ≡ some k → step_rule s st day ≡ record { outcome = refused k; state = st }

@@ -1,20 +1,20 @@
 -- One day of pass 1, as the daily step makes it.
 -- Assumes nothing.
-use Prim.Native.Nat.{ℕ, ◌*◌, ◌≤◌, ◌<◌}
+use Prim.Native.Nat.{ℕ, ◌*◌, ◌≤◌}
 use mathlib.Core.Path.{◌≡◌, refl, sym, ◌∙◌, ap, subst}
 use mathlib.Core.Bool.{false}
 use mathlib.Core.Logic.{inl, inr, ⊎_elim}
 use mathlib.Core.Option.{Option, none, some}
+use Rattle.std.specs.Prelude.{Some, None}
+use Rattle.std.specs.Prelude as Code
 use native.Mathlib.Omega.{arith}
-use lib.Dec.{ltb}
-use borrow.Author.Tests.{lt-ltb, le-ltb, ltb-false}
-use Rattle.numbers.specs.Arithmetic.{rounded, Weights}
+use borrow.Author.Tests.{le-ltb, ltb-false}
+use Rattle.numbers.specs.Arithmetic.{rounded}
 use Rattle.series.specs.Units.{flow_limit, missing_mark, no_value_mark, is_invalid_day, base_of, base_mark}
 use Rattle.series.proofs.Views.{day_missing, day_present, mark_none, mark_value, seen_none, seen_value, neither_of, valid_day}
 use Rattle.filter.specs.declared.Setting.{Setting}
 use Rattle.filter.specs.declared.DailyFilter.{DailyFilter}
 use Rattle.filter.specs.declared.Yesterday.{Yesterday}
-use Rattle.filter.specs.declared.Yesterday.TheVariants.{Unknown, Known}
 use Rattle.filter.specs.Methods.{weights, start, Usable}
 use Rattle.filter.specs.Passes.{step, thousandths}
 use Rattle.filter.specs.Daily.{fresh, after, invalid_yesterday, day_base, base_on, state_after}
@@ -22,32 +22,21 @@ use Rattle.filter.specs.Private.{SmallBase, day_state, day_mark}
 use Rattle.filter.proofs.Table.{start_below}
 use Rattle.filter.proofs.MethodNumbers.{step_below}
 
--- a state's yesterday, tested
-module _ {yd : Yesterday} {y b : ℕ} (e : yd ≡ Known y b) where
-  pub flow_over : flow_limit < y → ltb flow_limit y ≡ invalid_yesterday yd
-  unfolding invalid_yesterday
-  flow_over h = rw e (simp (lt-ltb flow_limit y h))
-
-  pub base_over : y ≤ flow_limit → ltb (1000 * y) b ≡ invalid_yesterday yd
-  unfolding invalid_yesterday
-  base_over h = rw e (simp (le-ltb flow_limit y h))
-
-  pub valid_yesterday : invalid_yesterday yd ≡ false → (y ≤ flow_limit) × (b ≤ 1000 * y)
-  unfolding invalid_yesterday
-  valid_yesterday h =
-      let n = neither_of _ _ (rw e at h) in
-      (ltb-false flow_limit y n.0, ltb-false (1000 * y) b n.1)
+pub valid_yesterday : {yd : Code.Option Yesterday} {day : Yesterday} → yd ≡ Some day → invalid_yesterday yd ≡ false → (day.flow ≤ flow_limit) × (day.base ≤ 1000 * day.flow)
+unfolding invalid_yesterday
+valid_yesterday {day = day} e h =
+    let n = neither_of _ _ (rw e at h) in
+    (ltb-false flow_limit day.flow n.0, ltb-false (1000 * day.flow) day.base n.1)
 
 -- a day's base value, without and with a yesterday
-module _ (s : Setting) {yd : Yesterday} (y : ℕ) {r : ℕ} where
-  pub first_base : Usable s → yd ≡ Unknown → r ≡ start rounded s y → (r ≡ day_base s yd y) × (r ≤ 1000 * y)
+module _ (s : Setting) {yd : Code.Option Yesterday} (y : ℕ) {r : ℕ} where
+  pub first_base : Usable s → yd ≡ None → r ≡ start rounded s y → (r ≡ day_base s yd y) × (r ≤ 1000 * y)
   unfolding day_base
   first_base u e h = (rw e h, subst (λ n. n ≤ 1000 * y) (sym h) (start_below u y))
 
-  pub later_base : {x b : ℕ} {w : Weights} → yd ≡ Known x b → w ≡ weights s → r ≡ step rounded w b (1000 * y) (1000 * x) → (r ≡ day_base s yd y) × (r ≤ 1000 * y)
+  pub later_base : {day : Yesterday} → yd ≡ Some day → r ≡ step rounded (weights s) day.base (1000 * y) (1000 * day.flow) → (r ≡ day_base s yd y) × (r ≤ 1000 * y)
   unfolding day_base thousandths
-  later_base {x} {b} {w} e k h =
-      (rw e (h ∙ ap (λ v. step rounded v b (1000 * y) (1000 * x)) k), subst (λ n. n ≤ 1000 * y) (sym h) (step_below w b (1000 * y) (1000 * x)))
+  later_base e h = (rw e h, subst (λ n. n ≤ 1000 * y) (sym h) (step_below _ _ _ _))
 
 abbrev pub Advance : Setting → DailyFilter → (day : ℕ) → DailyFilter → ℕ → Type 0
 Advance s st d st' b = ((st' ≡ day_state s st d) × (b ≡ day_mark s st d)) × ((invalid_yesterday st'.yesterday ≡ false) × SmallBase b)
@@ -75,9 +64,5 @@ unfolding state_after base_on
 value_shown s st none e h v = ap base_of h ∙ seen_none
 value_shown s st (some y) e h v =
     let f = day_base s st.yesterday y in
-    let l = valid_yesterday refl (subst (λ x. invalid_yesterday x.yesterday ≡ false) e v) in
+    let l = valid_yesterday {day = record { flow = y; base = f }} refl (subst (λ x. invalid_yesterday x.yesterday ≡ false) e v) in
     ap base_of h ∙ seen_value f (λ m. absurd (omega arith))
-
--- a state is its yesterday
-pub same_state : (st : DailyFilter) {yd : Yesterday} → st.yesterday ≡ yd → record { yesterday = yd } ≡ st
-same_state st e = ap (λ y. record { yesterday = y }) (sym e)

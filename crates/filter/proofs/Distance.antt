@@ -17,7 +17,9 @@ use Rattle.numbers.proofs.Recursion.{together}
 use Rattle.series.specs.Agreement.{Agree, no_value, values}
 use Rattle.series.proofs.Gaps.{over_each}
 use Rattle.filter.specs.declared.Setting.{Setting}
-use Rattle.filter.specs.Methods.{Method, lyne_hollick, chapman_1991, chapman_maxwell, boughton, eckhardt, tularam_ilahee, jakeman_hornberger, method_of, weights, method_start, start, invalid_passes, Usable}
+use Rattle.filter.specs.declared.method.Method.{Method}
+use Rattle.filter.specs.declared.method.Method.TheVariants.{LyneHollick, Chapman1991, ChapmanMaxwell, Boughton, Eckhardt, TularamIlahee, JakemanHornberger}
+use Rattle.filter.specs.Methods.{method_of, weights, method_start, start, invalid_passes, Usable}
 use Rattle.filter.specs.Passes.{step, thousandths, later_day, first_pass, forward_pass, backward_pass, passes, filtered}
 use Rattle.filter.specs.Distance.{limit_of, filter_limit}
 use Rattle.filter.proofs.Table.{row, start_below, passes_range, Mean, passes_mean}
@@ -128,13 +130,13 @@ module _ {s : Setting} (u : Usable s) where
   -- the usual start is rounded once
   method_start_close : (m : Method) (y : ℕ) → Close (filter_limit s 1) (method_start rounded m s y) (method_start exact m s y)
   unfolding method_start
-  method_start_close lyne_hollick y = close_exact (500 * y) (reads_filter_limit 1)
-  method_start_close chapman_1991 y = close_exact (500 * y) (reads_filter_limit 1)
-  method_start_close chapman_maxwell y = close_exact (500 * y) (reads_filter_limit 1)
-  method_start_close boughton y = close_exact (500 * y) (reads_filter_limit 1)
-  method_start_close eckhardt y = close_weaken (at_most reads_half (reads_filter_limit 1) (omega (arith, (row u).below))) (close_near (9 * s.q * y) 100)
-  method_start_close tularam_ilahee y = close_exact (500 * y) (reads_filter_limit 1)
-  method_start_close jakeman_hornberger y = close_exact (500 * y) (reads_filter_limit 1)
+  method_start_close LyneHollick y = close_exact (500 * y) (reads_filter_limit 1)
+  method_start_close Chapman1991 y = close_exact (500 * y) (reads_filter_limit 1)
+  method_start_close ChapmanMaxwell y = close_exact (500 * y) (reads_filter_limit 1)
+  method_start_close Boughton y = close_exact (500 * y) (reads_filter_limit 1)
+  method_start_close Eckhardt y = close_weaken (at_most reads_half (reads_filter_limit 1) (omega (arith, (row u).below))) (close_near (9 * s.q * y) 100)
+  method_start_close TularamIlahee y = close_exact (500 * y) (reads_filter_limit 1)
+  method_start_close JakemanHornberger y = close_exact (500 * y) (reads_filter_limit 1)
 
   start_close : (y : ℕ) → Close (filter_limit s 1) (start rounded s y) (start exact s y)
   unfolding start

@@ -1,176 +1,193 @@
--- The methods by their numbers, the tests of a setting as the code makes them, and the rounding step.
+-- The methods by their numbers, a setting's checks as the code makes them, and the rounding step.
 -- Assumes nothing.
-use Prim.Native.Nat.{ℕ, zero, suc, ◌+◌, ◌*◌, ◌-◌, ◌/◌, ◌≤◌, ◌<◌}
-use mathlib.Core.Path.{◌≡◌, refl, sym, ◌∙◌, ap, ap₂, subst}
-use mathlib.Core.Bool.{Bool, true, false, false≢true, not, cond, ◌&&◌}
-use native.Mathlib.Nat.{min-eq_left, min-eq_right, min-le_left, mul-le-mul}
+use Prim.Native.Nat.{ℕ, ◌+◌, ◌*◌, ◌-◌, ◌/◌, ◌≤◌, min}
+use mathlib.Core.Path.{◌≡◌, refl, sym, ◌∙◌, ap, subst}
+use mathlib.Core.Bool.{Bool, true, false, cond, not, ◌&&◌, ◌||◌}
+use mathlib.Core.List.{List, [], ◌∷◌}
+use mathlib.Core.Logic.{◌↔◌}
+use mathlib.Core.Option.{none, some}
+use native.Mathlib.Nat.{min-le_left, mul-le-mul}
 use native.Mathlib.Omega.{arith}
-use lib.Dec.{eqb, leb}
-use lib.IntN.{ℤ, pos, negsuc}
-use lib.Signed.{lt_z, le_z}
-use borrow.Author.Tests.{ne_eqb, le-leb, lt-leb, ltb-true, ltb-false}
+use lib.Dec.{leb, ltb, eqb}
+use lib.IntN.{ℤ, pos, negsuc, nat_abs, ◌*ℤ◌}
+use borrow.Author.Tests.{le-leb, ne_eqb}
+use Rattle.std.specs.Prelude.{Result, Ok, Err}
+use Rattle.std.proofs.Math.Bool.{and-true}
+use Rattle.std.proofs.lemmas.Bool.Decides.{nat_tests}
+use Rattle.series.specs.Units.{within}
+use Rattle.series.specs.Causes.{Cause, cause, first_cause, refusal_number}
+use Rattle.series.specs.declared.Refusal.{Refusal}
+use Rattle.series.specs.declared.Refusal.TheVariants.{UnknownMethod, ParameterOutOfRange}
 use Rattle.numbers.specs.Whole.{up, down}
-use Rattle.numbers.specs.Arithmetic.{rounded, Weights, weighted}
+use Rattle.numbers.specs.Arithmetic.{rounded, Weights}
 use Rattle.numbers.specs.Near.{near}
 use Rattle.numbers.proofs.Whole.{up_of_multiple, down_of_multiple}
-use Rattle.numbers.proofs.Signs.{up_by_sign, down_by_sign}
 use Rattle.numbers.proofs.Quantities.{weighted_rounded}
 use Rattle.filter.specs.declared.Setting.{Setting}
-use Rattle.filter.specs.Methods.{Method, lyne_hollick, chapman_1991, chapman_maxwell, boughton, eckhardt, tularam_ilahee, jakeman_hornberger, method_of, method_weights, weights, method_range, method_span, spans, in_range, method_start, start, out_of_range, Usable}
+use Rattle.filter.specs.declared.method.Method.{Method}
+use Rattle.filter.specs.declared.method.Method.TheVariants.{LyneHollick, Chapman1991, ChapmanMaxwell, Boughton, Eckhardt, TularamIlahee, JakemanHornberger}
+use Rattle.filter.specs.declared.method.Share.{Share}
+use Rattle.filter.specs.declared.method.Share.TheVariants.{Raises, Lowers}
+use Rattle.filter.specs.declared.usable.Filter.{Filter}
+use Rattle.filter.specs.Methods.{method_of, method_weights, weights, method_range, method_span, spans, in_range, method_start, start, unknown_method, out_of_range, invalid_passes, Usable}
 use Rattle.filter.specs.Passes.{step}
-use Rattle.filter.specs.declared.method.Coefficients.{Coefficients}
-use Rattle.filter.specs.Private.{weights_of, Moderate, Small, dividend}
-use Rattle.filter.proofs.Table.{MethodLimits, row, limits}
+use Rattle.filter.specs.Private.{numbered, RowLimits, share, raised, lowered, weights_of, Small, dividend}
+use Rattle.filter.proofs.Table.{Moderate, row, row_limits}
 
-and_true : (b : Bool) → (b && true) ≡ b
-and_true true = refl
-and_true false = refl
+-- s and its size, against n
+pub size_spans : (s : ℤ) (n : ℕ) → leb (nat_abs s) n ≡ spans n s
+unfolding spans
+size_spans (pos k) n = sym (rw (le-leb 0 n (omega arith)) (and-true (leb k n)))
+size_spans (negsuc k) n = sym (rw (le-leb 0 n (omega arith)) refl)
 
-and_false : (b : Bool) → (b && false) ≡ false
-and_false true = refl
-and_false false = refl
+-- the C of method 7
+pub share_weights : (s : ℤ) (q : ℕ) → (raised (share s q) ≡ up (s *ℤ pos q)) × (lowered (share s q) ≡ down (s *ℤ pos q))
+unfolding share
+share_weights (pos n) q = (sym (up_of_multiple (pos n) q), omega (arith, down_of_multiple (pos n) q))
+share_weights (negsuc n) q = (omega (arith, up_of_multiple (negsuc n) q), sym (down_of_multiple (negsuc n) q))
 
--- a number that is none of 1 to 5 and not 7 is read as 6
-pub other_method : (m : ℕ) → (m ≡ 1 → ⊥) → (m ≡ 2 → ⊥) → (m ≡ 3 → ⊥) → (m ≡ 4 → ⊥) → (m ≡ 5 → ⊥) → (m ≡ 7 → ⊥) → method_of m ≡ tularam_ilahee
-unfolding method_of
-other_method m h₁ h₂ h₃ h₄ h₅ h₇ = simp (ne_eqb m 1 h₁, ne_eqb m 2 h₂, ne_eqb m 3 h₃, ne_eqb m 4 h₄, ne_eqb m 5 h₅, ne_eqb m 7 h₇)
+pub signed_row : (s : Setting) {m : Method} {p q : ℕ} {c : Share} → m ≡ JakemanHornberger → p ≡ s.p → q ≡ s.q → c ≡ share s.s q → weights_of (record { a = 10000 * p; b = 10000 * q; c = c; d = 10000 * (10000 + q) }) ≡ method_weights m s
+unfolding method_weights
+signed_row s e f g h = let w = share_weights s.s s.q in rw (e, h, f, g, w.0, w.1) refl
 
--- the range by the method
-pub range_at : (m : Method) (s : Setting) {r : Bool} → method_of s.method ≡ m → r ≡ method_range m s → r ≡ method_range (method_of s.method) s
-range_at m s e h = rw e h
+-- what a number is read as
+by_range : (n : ℕ) (b : Bool) → within 1 7 n ≡ b → numbered n ≡ cond b (Ok (method_of n)) (Err UnknownMethod)
+unfolding numbered
+by_range n b e = rw e refl
 
--- only method 7 has an s
-span_7 : (m : ℕ) → m ≡ 7 → 9999 ≡ method_span (method_of m)
-unfolding method_of method_span
-span_7 m e = sym (ap (λ k. method_span (method_of k)) e)
-
-span_other : (m : ℕ) → (m ≡ 7 → ⊥) → 0 ≡ method_span (method_of m)
-unfolding method_of method_span
-span_other m h = simp (ne_eqb m 7 h) (pick (eqb m 1) (eqb m 2) (eqb m 3) (eqb m 4) (eqb m 5))
+pub unnamed : (n : ℕ) {r : Refusal} → Err r ≡ numbered n → (within 1 7 n ≡ false) × (r ≡ UnknownMethod)
+unnamed n {r} e = by_test (within 1 7 n) refl
   where
-    pick : (a b c d e : Bool) → 0 ≡ method_span (cond a lyne_hollick (cond b chapman_1991 (cond c chapman_maxwell (cond d boughton (cond e eckhardt tularam_ilahee)))))
-    pick true b c d e = refl
-    pick false true c d e = refl
-    pick false false true d e = refl
-    pick false false false true e = refl
-    pick false false false false true = refl
-    pick false false false false false = refl
+    by_test : (b : Bool) → within 1 7 n ≡ b → (within 1 7 n ≡ false) × (r ≡ UnknownMethod)
+    by_test true h = let k = e ∙ by_range n true h in (cc, cc)
+    by_test false h = let k = e ∙ by_range n false h in (h, cc)
 
--- s as the code tests it: from -9999 to 9999, and 0 in the other methods
-pub spans_zero : (n : ℕ) (s : ℤ) → s ≡ pos 0 → true ≡ spans n s
-unfolding spans
-spans_zero n s e = sym (ap (λ z. leb (up z) n && leb (down z) n) e ∙ ap (λ b. b && b) (le-leb 0 n (omega arith)))
+pub named : (n : ℕ) {m : Method} → Ok m ≡ numbered n → (within 1 7 n ≡ true) × (m ≡ method_of n)
+named n {m} e = by_test (within 1 7 n) refl
+  where
+    by_test : (b : Bool) → within 1 7 n ≡ b → (within 1 7 n ≡ true) × (m ≡ method_of n)
+    by_test true h = let k = e ∙ by_range n true h in (h, cc)
+    by_test false h = let k = e ∙ by_range n false h in (cc, cc)
 
-pub spans_nothing : (s : ℤ) → (s ≡ pos 0 → ⊥) → false ≡ spans 0 s
-unfolding spans
-spans_nothing (pos zero) h = absurd (h refl)
-spans_nothing (pos (suc n)) h = rw (lt-leb (suc n) 0 (omega arith))
-spans_nothing (negsuc n) h = rw (lt-leb (suc n) 0 (omega arith))
+-- the checks of a setting, in their order
+abbrev causes : Setting → List Cause
+causes s = cause (unknown_method s) 11 ∷ cause (out_of_range s) 12 ∷ []
 
-pub too_low : (s : ℤ) → lt_z s (negsuc 9998) ≡ true → false ≡ spans 9999 s
-unfolding spans
-too_low (pos n) e = absurd (false≢true e)
-too_low (negsuc n) e = let h = ltb-true 9998 n e in rw (lt-leb (suc n) 9999 (omega arith))
+pub no_method : (s : Setting) {r : Refusal} → Err r ≡ numbered s.method → some (refusal_number r) ≡ first_cause (causes s)
+unfolding unknown_method
+no_method s e = let u = unnamed s.method e in rw (u.0, u.1) refl
 
-pub not_too_low : (s : ℤ) → lt_z s (negsuc 9998) ≡ false → le_z s (pos 9999) ≡ spans 9999 s
-unfolding spans
-not_too_low (pos n) e = sym (and_true (leb n 9999))
-not_too_low (negsuc n) e = let h = ltb-false 9998 n e in sym (rw (le-leb (suc n) 9999 (omega arith)))
-
--- by its method's number
-pub seventh_span : (m : ℕ) (s : ℤ) {r : Bool} → m ≡ 7 → r ≡ spans 9999 s → r ≡ spans (method_span (method_of m)) s
-seventh_span m s e h = h ∙ ap (λ n. spans n s) (span_7 m e)
-
-pub other_span : (m : ℕ) (s : ℤ) → (m ≡ 7 → ⊥) → (s ≡ pos 0 → ⊥) → false ≡ spans (method_span (method_of m)) s
-other_span m s h z = spans_nothing s z ∙ ap (λ n. spans n s) (span_other m h)
-
--- 12, by its two parts
-module _ (s : Setting) {r : Bool} (e : r ≡ spans (method_span (method_of s.method)) s.s) where
-  pub range_tested : {t : Bool} → r ≡ true → t ≡ method_range (method_of s.method) s → not t ≡ out_of_range s
+module _ (s : Setting) {m : Method} (e : Ok m ≡ numbered s.method) {t : Bool} (f : t ≡ (method_range m s && spans (method_span m) s.s)) where
+  tested : not t ≡ out_of_range s
   unfolding out_of_range in_range
-  range_tested h k = ap not (k ∙ sym (ap (λ b. method_range (method_of s.method) s && b) (sym e ∙ h) ∙ and_true (method_range (method_of s.method) s)))
+  tested = ap not (f ∙ ap (λ k. method_range k s && spans (method_span k) s.s) (named s.method e).1)
 
-  pub s_refused : r ≡ false → true ≡ out_of_range s
-  unfolding out_of_range in_range
-  s_refused h = ap not (sym (ap (λ b. method_range (method_of s.method) s && b) (sym e ∙ h) ∙ and_false (method_range (method_of s.method) s)))
+  known : unknown_method s ≡ false
+  unfolding unknown_method
+  known = ap not (named s.method e).0
 
-module _ {s : Setting} {m : Method} (u : Usable s) (e : method_of s.method ≡ m) where
-  pub limits_at : MethodLimits m s
-  limits_at = subst (λ k. MethodLimits k s) e (limits u)
+  module _ {v : Result Unit Refusal} (ok : (v ≡ Ok tt) ↔ (not t ≡ false)) (err : (v ≡ Err ParameterOutOfRange) ↔ (not t ≡ true)) where
+    pub outside : {r : Refusal} → v ≡ Err r → some (refusal_number r) ≡ first_cause (causes s)
+    outside {r} h = by_test (not t) refl
+      where
+        by_test : (b : Bool) → not t ≡ b → some (refusal_number r) ≡ first_cause (causes s)
+        by_test true k = let o : out_of_range s ≡ true = sym tested ∙ k in let same : r ≡ ParameterOutOfRange = (let w = err.1 k in cc) in rw (known, o, same) refl
+        by_test false k = let w = ok.1 k in cc
 
-  pub row_at : (method_weights m s ≡ weights s) × Moderate (method_weights m s)
-  unfolding weights
-  row_at = subst (λ k. (method_weights k s ≡ method_weights (method_of s.method) s) × Moderate (method_weights k s)) e (refl, (row u).moderate)
+    pub inside : v ≡ Ok tt → Usable s
+    inside h = record { known = known; in_range = sym tested ∙ ok.0 h }
 
--- the row of method 7, with the size and the sign of s as the code has them
-module _ (s : Setting) {n : ℕ} {t : Bool} (e : n ≡ up s.s + down s.s) (f : t ≡ lt_z s.s (pos 0)) where
-  abbrev signed_row : Weights
-  signed_row = record { A = 10000 * s.p; B = 10000 * s.q; C = cond t 0 (n * s.q); E = cond t (n * s.q) 0; d = 10000 * (10000 + s.q) }
+pub neither : (s : Setting) → Usable s → none ≡ first_cause (causes s)
+neither s u = rw (u.known, u.in_range) refl
 
-  same_row : signed_row ≡ method_weights jakeman_hornberger s
-  unfolding method_weights
-  same_row =
-      ap₂ (λ c k. record { A = 10000 * s.p; B = 10000 * s.q; C = c; E = k; d = 10000 * (10000 + s.q) })
-      (ap₂ (λ b k. cond b 0 (k * s.q)) f e ∙ up_by_sign s.s s.q ∙ sym (up_of_multiple s.s s.q))
-      (ap₂ (λ b k. cond b (k * s.q) 0) f e ∙ down_by_sign s.s s.q ∙ sym (down_of_multiple s.s s.q))
+pub method_row : {s : Setting} {m : Method} → m ≡ method_of s.method → Usable s → RowLimits m s
+method_row {s} e u = subst (λ k. RowLimits k s) (sym e) (row_limits u)
 
-  pub row_7 : Usable s → method_of s.method ≡ jakeman_hornberger → (signed_row ≡ weights s) × Moderate signed_row
-  row_7 u m = let r = row_at u m in (same_row ∙ r.0, subst Moderate (sym same_row) r.1)
+pub row_weights : (s : Setting) {m : Method} {w : Weights} → m ≡ method_of s.method → w ≡ method_weights m s → w ≡ weights s
+unfolding weights
+row_weights s e h = h ∙ ap (λ k. method_weights k s) e
 
-pub signed_product : (s : Setting) (n : ℕ) → n ≡ up s.s + down s.s → Usable s → method_of s.method ≡ jakeman_hornberger → n * s.q ≤ 200000000
-signed_product s n e u m = let l = limits_at u m in let small : n ≤ 19998 = omega (arith, e, l) in omega (arith, mul-le-mul small l.3)
+-- 13, in method 1 and in all others
+number_1 : (n : ℕ) → method_of n ≡ LyneHollick → eqb n 1 ≡ true
+unfolding method_of
+number_1 n e = by_test (eqb n 1) refl
+  where
+    other : (a b c d f : Bool) → cond a Chapman1991 (cond b ChapmanMaxwell (cond c Boughton (cond d Eckhardt (cond f JakemanHornberger TularamIlahee)))) ≡ LyneHollick → ⊥
+    other true b c d f e = cc
+    other false true c d f e = cc
+    other false false true d f e = cc
+    other false false false true f e = cc
+    other false false false false true e = cc
+    other false false false false false e = cc
+
+    by_test : (b : Bool) → eqb n 1 ≡ b → eqb n 1 ≡ true
+    by_test true h = h
+    by_test false h = absurd (other (eqb n 2) (eqb n 3) (eqb n 4) (eqb n 5) (eqb n 7) (rw h at e))
+
+over_1 : (n : ℕ) → not (eqb n 1) ≡ (not (leb 1 n && leb n 3) || (ltb 1 n && true))
+over_1 n = grind (arith, nat_tests)
+
+module _ (s : Setting) {m : Method} (e : m ≡ method_of s.method) (n : ℕ) where
+  pub passes_of_1 : m ≡ LyneHollick → not (within 1 3 n) ≡ invalid_passes s n
+  unfolding invalid_passes
+  passes_of_1 h = rw (number_1 s.method (sym e ∙ h)) (by_test (not (within 1 3 n)) (ltb 1 n))
+    where
+      by_test : (a b : Bool) → a ≡ (a || (b && false))
+      by_test true b = refl
+      by_test false true = refl
+      by_test false false = refl
+
+  pub passes_of_others : (m ≡ LyneHollick → ⊥) → not (eqb n 1) ≡ invalid_passes s n
+  unfolding invalid_passes method_of within
+  passes_of_others h = rw (ne_eqb s.method 1 (λ k. h (e ∙ ap method_of k))) (over_1 n)
 
 -- the usual start, in method 5 and in all others
-module _ (s : Setting) (y : ℕ) where
-  pub start_5 : s.method ≡ 5 → start rounded s y ≡ near (9 * s.q * y) 100
-  unfolding start method_of
-  start_5 e = ap (λ m. method_start rounded (method_of m) s y) e
+module _ (s : Setting) {m : Method} (e : m ≡ method_of s.method) (y : ℕ) where
+  pub start_eckhardt : m ≡ Eckhardt → near (9 * s.q * y) 100 ≡ start rounded s y
+  unfolding start method_start
+  start_eckhardt h = ap (λ k. method_start rounded k s y) (sym h ∙ e)
 
-  pub start_other : (s.method ≡ 5 → ⊥) → start rounded s y ≡ 500 * y
-  unfolding start method_of
-  start_other h = simp (ne_eqb s.method 5 h) (pick (eqb s.method 1) (eqb s.method 2) (eqb s.method 3) (eqb s.method 4) (eqb s.method 7))
+  pub start_other : (m ≡ Eckhardt → ⊥) → 500 * y ≡ start rounded s y
+  unfolding start method_start
+  start_other h = by_method m h ∙ ap (λ k. method_start rounded k s y) e
     where
-      pick : (a b c d e : Bool) → method_start rounded (cond a lyne_hollick (cond b chapman_1991 (cond c chapman_maxwell (cond d boughton (cond e jakeman_hornberger tularam_ilahee))))) s y ≡ 500 * y
-      pick true b c d e = refl
-      pick false true c d e = refl
-      pick false false true d e = refl
-      pick false false false true e = refl
-      pick false false false false true = refl
-      pick false false false false false = refl
+      by_method : (k : Method) → (k ≡ Eckhardt → ⊥) → 500 * y ≡ method_start rounded k s y
+      by_method LyneHollick h = refl
+      by_method Chapman1991 h = refl
+      by_method ChapmanMaxwell h = refl
+      by_method Boughton h = refl
+      by_method Eckhardt h = absurd (h refl)
+      by_method TularamIlahee h = refl
+      by_method JakemanHornberger h = refl
 
--- the weights that the code carries, where C lowers the sum and where not
-module _ (w : Coefficients) where
-  abbrev signed : Bool → Weights
-  signed t = record { A = w.a; B = w.b; C = cond t 0 w.c; E = cond t w.c 0; d = w.d }
+-- the weights that the code carries, each times its value
+module _ (k : Filter) where
+  pub moderate : Moderate (weights_of k.row)
+  moderate = subst Moderate (sym k.row_is) (row k.usable).moderate
 
-  -- each times its value
-  pub products_small : {f u v : ℕ} → Moderate (weights_of w) → Small f × Small u × Small v → (w.a * f ≤ 1000000000000000000) × (w.b * u ≤ 1000000000000000000) × (w.c * v ≤ 1000000000000000000) × (w.d ≤ 200000000)
-  products_small m h = (mul-le-mul m.a h.0, mul-le-mul m.b h.1, mul-le-mul (size w.lowers m.c m.e) h.2, m.d)
-    where
-      size : (t : Bool) → cond t 0 w.c ≤ 100000000 → cond t w.c 0 ≤ 100000000 → w.c ≤ 100000000
-      size true c e = e
-      size false c e = c
+  pub a_small : (f : ℕ) → Small f → k.row.a * f ≤ 1000000000000000000
+  a_small f h = mul-le-mul moderate.a h
 
-  -- the sum as the code makes it
-  module _ (f u v : ℕ) {n : ℕ} where
-    pub sum_lowered : w.lowers ≡ true → n ≡ w.a * f + (w.b * u + w.d / 2) - w.c * v → n ≡ dividend (weights_of w) f u v
-    sum_lowered e h = h ∙ omega arith ∙ ap (λ t. dividend (signed t) f u v) (sym e)
+  pub b_small : (u : ℕ) → Small u → k.row.b * u ≤ 1000000000000000000
+  b_small u h = mul-le-mul moderate.b h
 
-    pub sum_raised : w.lowers ≡ false → n ≡ w.a * f + (w.b * u + w.d / 2 + w.c * v) → n ≡ dividend (weights_of w) f u v
-    sum_raised e h = h ∙ omega arith ∙ ap (λ t. dividend (signed t) f u v) (sym e)
+  pub d_small : k.row.d ≤ 200000000
+  d_small = moderate.d
 
--- the rounded mean, and what is held to u of it
-module _ (w : Weights) (f u v : ℕ) {n h : ℕ} (near_of : (a loss : ℕ) → h ≡ a + w.d / 2 - loss → n ≡ near (a - loss) w.d) (sum : h ≡ dividend w f u v) where
-  mean : n ≡ weighted rounded w f u v
-  mean = near_of (w.A * f + w.B * u + w.C * v) (w.E * v) sum ∙ sym (weighted_rounded w f u v)
+  pub raises_small : {c : ℕ} (v : ℕ) → k.row.c ≡ Raises c → Small v → c * v ≤ 1000000000000000000
+  raises_small {c} v e h = let l : c ≤ 100000000 = rw e at moderate.c in mul-le-mul l h
 
-  pub step_capped : u < n → u ≡ step rounded w f u v
-  unfolding step
-  step_capped l = sym (min-eq_left (omega (arith, mean)))
+  pub lowers_small : {c : ℕ} (v : ℕ) → k.row.c ≡ Lowers c → Small v → c * v ≤ 1000000000000000000
+  lowers_small {c} v e h = let l : c ≤ 100000000 = rw e at moderate.e in mul-le-mul l h
 
-  pub step_mean : n ≤ u → n ≡ step rounded w f u v
-  unfolding step
-  step_mean l = mean ∙ sym (min-eq_right (omega (arith, mean)))
+pub ruleset small_products = (a_small, b_small, d_small)
+
+-- the rounded mean, held to u
+pub smoothed_is : (w : Weights) (f u v : ℕ) {d n h : ℕ} → d ≡ w.d → ((a loss : ℕ) → h ≡ a + d / 2 - loss → n ≡ near (a - loss) d) → h ≡ dividend w f u v → min u n ≡ step rounded w f u v
+unfolding step
+smoothed_is w f u v e near_of sum =
+    ap (min u)
+    (near_of (w.A * f + w.B * u + w.C * v) (w.E * v) (rw e sum) ∙ ap (near (w.A * f + w.B * u + w.C * v - w.E * v)) e ∙ sym (weighted_rounded w f u v))
 
 pub step_below : (w : Weights) (f u v : ℕ) → step rounded w f u v ≤ u
 unfolding step

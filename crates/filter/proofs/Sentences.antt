@@ -20,6 +20,8 @@ use mathlib.Core.Bool.{Bool, true, false}
 use mathlib.Core.List.{List, [], ◌∷◌, map}
 use mathlib.Core.Logic.{◌⊎◌, ⊎_elim}
 use mathlib.Core.Option.{Option, none, some, none-ne-some}
+use Rattle.std.specs.Prelude.{Some, None}
+use Rattle.std.specs.Prelude as Code
 use native.Mathlib.Omega.{arith}
 use lib.ListN.{length, get_or, take, drop, length-map, length-reverse}
 use borrow.Author.Tests.{le-ltb}
@@ -40,7 +42,6 @@ use Rattle.series.proofs.Views.{mark_value, neither_of, valid_day, day_missing, 
 use Rattle.filter.specs.declared.Setting.{Setting}
 use Rattle.filter.specs.declared.DailyFilter.{DailyFilter}
 use Rattle.filter.specs.declared.Yesterday.{Yesterday}
-use Rattle.filter.specs.declared.Yesterday.TheVariants.{Unknown, Known}
 use Rattle.filter.specs.Methods.{weights, start, unknown_method, out_of_range, invalid_passes, Usable, method_of}
 use Rattle.filter.specs.Passes.{step, thousandths, passes, filtered}
 use Rattle.filter.specs.Daily.{fresh, invalid_yesterday, day_base, base_on, state_after}
@@ -139,10 +140,10 @@ unfolding filtered_list
 base_at_most s n u v days = at_place (filter_each u n v AtMostFlow tt (λ y b f h c. rw mark_value h) (map day_of days))
 
 module _ (s : Setting) (u : Usable s) where
-  base_below : (yd : Yesterday) (y : ℕ) → day_base s yd y ≤ 1000 * y
+  base_below : (yd : Code.Option Yesterday) (y : ℕ) → day_base s yd y ≤ 1000 * y
   unfolding day_base thousandths
-  base_below Unknown y = start_below u y
-  base_below (Known x b) y = step_below _ _ _ _
+  base_below None y = start_below u y
+  base_below (Some day) y = step_below _ _ _ _
 
   state_valid : (st : DailyFilter) (d : ℕ) → is_invalid_day d ≡ false → invalid_yesterday (state_after s st (day_of d)).yesterday ≡ false
   unfolding state_after invalid_yesterday

@@ -16,18 +16,20 @@ use Rattle.numbers.specs.Arithmetic.{Weights, rounded}
 use Rattle.numbers.proofs.Whole.{up_of_multiple, down_of_multiple}
 use Rattle.numbers.proofs.Rounding.{near_at_most}
 use Rattle.filter.specs.declared.Setting.{Setting}
-use Rattle.filter.specs.Methods.{Method, lyne_hollick, chapman_1991, chapman_maxwell, boughton, eckhardt, tularam_ilahee, jakeman_hornberger, method_of, method_weights, weights, method_range, method_span, spans, in_range, method_start, start, out_of_range, invalid_passes, Usable}
-use Rattle.filter.specs.Private.{Moderate}
+use Rattle.filter.specs.declared.method.Method.{Method}
+use Rattle.filter.specs.declared.method.Method.TheVariants.{LyneHollick, Chapman1991, ChapmanMaxwell, Boughton, Eckhardt, TularamIlahee, JakemanHornberger}
+use Rattle.filter.specs.Methods.{method_of, method_weights, weights, method_range, method_span, spans, in_range, method_start, start, out_of_range, invalid_passes, Usable}
+use Rattle.filter.specs.Private.{RowLimits}
 
 -- the ranges of a row as inequalities
 abbrev pub MethodLimits : Method → Setting → Type 0
-MethodLimits lyne_hollick s = (1 ≤ s.p) × (s.p ≤ 9999) × (s.q ≡ 0)
-MethodLimits chapman_1991 s = (3334 ≤ s.p) × (s.p ≤ 9999) × (s.q ≡ 0)
-MethodLimits chapman_maxwell s = (1 ≤ s.p) × (s.p ≤ 9999) × (s.q ≡ 0)
-MethodLimits boughton s = (1 ≤ s.p) × (s.p ≤ 9999) × (1 ≤ s.q) × (s.q ≤ 10000)
-MethodLimits eckhardt s = (1 ≤ s.p) × (s.p ≤ 9999) × (1 ≤ s.q) × (s.q ≤ 9999)
-MethodLimits tularam_ilahee s = (1 ≤ s.p) × (s.p ≤ 9999) × (s.q ≡ 0)
-MethodLimits jakeman_hornberger s = (1 ≤ s.p) × (s.p ≤ 9999) × (1 ≤ s.q) × (s.q ≤ 10000) × (up s.s ≤ 9999) × (down s.s ≤ 9999)
+MethodLimits LyneHollick s = (1 ≤ s.p) × (s.p ≤ 9999) × (s.q ≡ 0)
+MethodLimits Chapman1991 s = (3334 ≤ s.p) × (s.p ≤ 9999) × (s.q ≡ 0)
+MethodLimits ChapmanMaxwell s = (1 ≤ s.p) × (s.p ≤ 9999) × (s.q ≡ 0)
+MethodLimits Boughton s = (1 ≤ s.p) × (s.p ≤ 9999) × (1 ≤ s.q) × (s.q ≤ 10000)
+MethodLimits Eckhardt s = (1 ≤ s.p) × (s.p ≤ 9999) × (1 ≤ s.q) × (s.q ≤ 9999)
+MethodLimits TularamIlahee s = (1 ≤ s.p) × (s.p ≤ 9999) × (s.q ≡ 0)
+MethodLimits JakemanHornberger s = (1 ≤ s.p) × (s.p ≤ 9999) × (1 ≤ s.q) × (s.q ≤ 10000) × (up s.s ≤ 9999) × (down s.s ≤ 9999)
 
 abbrev pub Limits : Setting → Type 0
 Limits s = MethodLimits (method_of s.method) s
@@ -44,13 +46,13 @@ two_parameters high p q e =
 
 method_limits : (m : Method) (s : Setting) → method_range m s ≡ true → spans (method_span m) s.s ≡ true → MethodLimits m s
 unfolding method_range method_span spans
-method_limits lyne_hollick s e f = one_parameter 1 s.p s.q e
-method_limits chapman_1991 s e f = one_parameter 3334 s.p s.q e
-method_limits chapman_maxwell s e f = one_parameter 1 s.p s.q e
-method_limits boughton s e f = two_parameters 10000 s.p s.q e
-method_limits eckhardt s e f = two_parameters 9999 s.p s.q e
-method_limits tularam_ilahee s e f = one_parameter 1 s.p s.q e
-method_limits jakeman_hornberger s e f =
+method_limits LyneHollick s e f = one_parameter 1 s.p s.q e
+method_limits Chapman1991 s e f = one_parameter 3334 s.p s.q e
+method_limits ChapmanMaxwell s e f = one_parameter 1 s.p s.q e
+method_limits Boughton s e f = two_parameters 10000 s.p s.q e
+method_limits Eckhardt s e f = two_parameters 9999 s.p s.q e
+method_limits TularamIlahee s e f = one_parameter 1 s.p s.q e
+method_limits JakemanHornberger s e f =
     let l = two_parameters 10000 s.p s.q e in
     let h = both_of _ _ f in
     (l.0, l.1, l.2, l.3, leb-true (up s.s) 9999 h.0, leb-true (down s.s) 9999 h.1)
@@ -59,18 +61,31 @@ pub limits : {s : Setting} → Usable s → Limits s
 unfolding out_of_range in_range
 limits {s} u = let h = both_of _ _ (not-false _ u.in_range) in method_limits (method_of s.method) s h.0 h.1
 
--- p from 1 to 9999, whatever the row
-method_p : (m : Method) (s : Setting) → MethodLimits m s → (1 ≤ s.p) × (s.p ≤ 9999)
-method_p lyne_hollick s l = (l.0, l.1)
-method_p chapman_1991 s l = (omega arith, l.1)
-method_p chapman_maxwell s l = (l.0, l.1)
-method_p boughton s l = (l.0, l.1)
-method_p eckhardt s l = (l.0, l.1)
-method_p tularam_ilahee s l = (l.0, l.1)
-method_p jakeman_hornberger s l = (l.0, l.1)
+-- what the code's row asks of its setting
+method_asks : (m : Method) (s : Setting) → MethodLimits m s → RowLimits m s
+method_asks LyneHollick s l = record { p_low = l.0; p_high = l.1; q_high = omega arith; chapman = λ e. cc }
+method_asks Chapman1991 s l = record { p_low = omega arith; p_high = l.1; q_high = omega arith; chapman = λ e. l.0 }
+method_asks ChapmanMaxwell s l = record { p_low = l.0; p_high = l.1; q_high = omega arith; chapman = λ e. cc }
+method_asks Boughton s l = record { p_low = l.0; p_high = l.1; q_high = l.3; chapman = λ e. cc }
+method_asks Eckhardt s l = record { p_low = l.0; p_high = l.1; q_high = omega arith; chapman = λ e. cc }
+method_asks TularamIlahee s l = record { p_low = l.0; p_high = l.1; q_high = omega arith; chapman = λ e. cc }
+method_asks JakemanHornberger s l = record { p_low = l.0; p_high = l.1; q_high = l.3; chapman = λ e. cc }
 
+pub row_limits : {s : Setting} → Usable s → RowLimits (method_of s.method) s
+row_limits {s} u = method_asks (method_of s.method) s (limits u)
+
+-- p from 1 to 9999, whatever the row
 pub p_range : {s : Setting} → Usable s → (1 ≤ s.p) × (s.p ≤ 9999)
-p_range {s} u = method_p (method_of s.method) s (limits u)
+p_range u = let l = row_limits u in (l.p_low, l.p_high)
+
+-- none above 10^8, a d of at most twice that, and one to divide by
+pub record Moderate (w : Weights) : Type 0 where
+  pub a : w.A ≤ 100000000
+  pub b : w.B ≤ 100000000
+  pub c : w.C ≤ 100000000
+  pub e : w.E ≤ 100000000
+  pub d : w.d ≤ 200000000
+  pub above : 0 < w.d
 
 -- what every proof uses of a row
 pub record Row (w : Weights) : Type 0 where
@@ -84,19 +99,19 @@ products p q a b e f h =
     let part : a * (q + b) ≡ a * 10000 = ap (λ n. a * n) f in
     omega arith
 
-pub eckhardt_products : (s : Setting) → MethodLimits eckhardt s
+pub eckhardt_products : (s : Setting) → MethodLimits Eckhardt s
     → (s.p * (10000 - s.q) + s.p * s.q < 100000000) × (s.p * (10000 - s.q) ≤ 100000000) × ((10000 - s.p) * s.q ≤ 100000000)
 eckhardt_products s l = products s.p s.q (10000 - s.p) (10000 - s.q) (omega arith) (omega arith) (omega arith)
 
 method_row : (m : Method) (s : Setting) → MethodLimits m s → Row (method_weights m s)
 unfolding method_weights
-method_row lyne_hollick s l = record { below = omega arith; moderate = omega arith }
-method_row chapman_1991 s l = record { below = omega arith; moderate = omega arith }
-method_row chapman_maxwell s l = record { below = omega arith; moderate = omega arith }
-method_row boughton s l = record { below = omega arith; moderate = omega arith }
-method_row eckhardt s l = let h = eckhardt_products s l in record { below = omega arith; moderate = omega arith }
-method_row tularam_ilahee s l = record { below = omega arith; moderate = omega arith }
-method_row jakeman_hornberger s l =
+method_row LyneHollick s l = record { below = omega arith; moderate = omega arith }
+method_row Chapman1991 s l = record { below = omega arith; moderate = omega arith }
+method_row ChapmanMaxwell s l = record { below = omega arith; moderate = omega arith }
+method_row Boughton s l = record { below = omega arith; moderate = omega arith }
+method_row Eckhardt s l = let h = eckhardt_products s l in record { below = omega arith; moderate = omega arith }
+method_row TularamIlahee s l = record { below = omega arith; moderate = omega arith }
+method_row JakemanHornberger s l =
     let c = mul-le-mul l.4 l.3 in
     let e = mul-le-mul l.5 l.3 in
     record { below = omega arith; moderate = record { a = omega arith; b = omega arith; c = omega (arith, up_of_multiple s.s s.q); e = omega (arith, down_of_multiple s.s s.q); d = omega arith; above = omega arith } }
@@ -109,13 +124,13 @@ row {s} u = method_row (method_of s.method) s (limits u)
 -- The rows without a difference: what the table takes away stands on the other side. So none of its differences is cut
 -- off at zero.
 abbrev pub Uncut : Method → (p q : ℕ) → Weights → Type 0
-Uncut lyne_hollick p q w = (w.A ≡ 2 * p) × (w.B + p ≡ 10000) × (w.C + p ≡ 10000) × (w.d ≡ 20000)
-Uncut chapman_1991 p q w = (w.A + 10000 ≡ 3 * p) × (w.B + p ≡ 10000) × (w.C + p ≡ 10000) × (w.d + p ≡ 30000)
-Uncut chapman_maxwell p q w = (w.A ≡ p) × (w.B + p ≡ 10000) × (w.C ≡ 0) × (w.d + p ≡ 20000)
-Uncut boughton p q w = (w.A ≡ p) × (w.B ≡ q) × (w.C ≡ 0) × (w.d ≡ 10000 + q)
-Uncut eckhardt p q w = (w.A + p * q ≡ 10000 * p) × (w.B + p * q ≡ 10000 * q) × (w.C ≡ 0) × (w.d + p * q ≡ 100000000)
-Uncut tularam_ilahee p q w = (w.A ≡ p) × (w.B + p ≡ 10000) × (w.C ≡ 0) × (w.d ≡ 10000)
-Uncut jakeman_hornberger p q w = (w.A ≡ 10000 * p) × (w.B ≡ 10000 * q) × (w.d ≡ 10000 * (10000 + q))
+Uncut LyneHollick p q w = (w.A ≡ 2 * p) × (w.B + p ≡ 10000) × (w.C + p ≡ 10000) × (w.d ≡ 20000)
+Uncut Chapman1991 p q w = (w.A + 10000 ≡ 3 * p) × (w.B + p ≡ 10000) × (w.C + p ≡ 10000) × (w.d + p ≡ 30000)
+Uncut ChapmanMaxwell p q w = (w.A ≡ p) × (w.B + p ≡ 10000) × (w.C ≡ 0) × (w.d + p ≡ 20000)
+Uncut Boughton p q w = (w.A ≡ p) × (w.B ≡ q) × (w.C ≡ 0) × (w.d ≡ 10000 + q)
+Uncut Eckhardt p q w = (w.A + p * q ≡ 10000 * p) × (w.B + p * q ≡ 10000 * q) × (w.C ≡ 0) × (w.d + p * q ≡ 100000000)
+Uncut TularamIlahee p q w = (w.A ≡ p) × (w.B + p ≡ 10000) × (w.C ≡ 0) × (w.d ≡ 10000)
+Uncut JakemanHornberger p q w = (w.A ≡ 10000 * p) × (w.B ≡ 10000 * q) × (w.d ≡ 10000 * (10000 + q))
 
 -- n times a difference
 times_difference : (n p : ℕ) → p ≤ 10000 → n * (10000 - p) + n * p ≡ 10000 * n
@@ -125,15 +140,15 @@ times_difference n p h =
 
 method_uncut : (m : Method) (s : Setting) → MethodLimits m s → Uncut m s.p s.q (method_weights m s)
 unfolding method_weights
-method_uncut lyne_hollick s l = omega arith
-method_uncut chapman_1991 s l = omega arith
-method_uncut chapman_maxwell s l = omega arith
-method_uncut boughton s l = omega arith
-method_uncut eckhardt s l =
+method_uncut LyneHollick s l = omega arith
+method_uncut Chapman1991 s l = omega arith
+method_uncut ChapmanMaxwell s l = omega arith
+method_uncut Boughton s l = omega arith
+method_uncut Eckhardt s l =
     let h = eckhardt_products s l in
     (times_difference s.p s.q (omega arith), omega (arith, times_difference s.q s.p (omega arith)), refl, omega arith)
-method_uncut tularam_ilahee s l = omega arith
-method_uncut jakeman_hornberger s l = (refl, refl, refl)
+method_uncut TularamIlahee s l = omega arith
+method_uncut JakemanHornberger s l = (refl, refl, refl)
 
 pub no_difference_cut_off : {s : Setting} → Usable s → Uncut (method_of s.method) s.p s.q (weights s)
 unfolding weights
@@ -142,13 +157,13 @@ no_difference_cut_off {s} u = method_uncut (method_of s.method) s (limits u)
 -- the usual start lies at or below the flow
 method_start_below : (m : Method) (s : Setting) (y : ℕ) → MethodLimits m s → method_start rounded m s y ≤ 1000 * y
 unfolding method_start
-method_start_below lyne_hollick s y l = omega arith
-method_start_below chapman_1991 s y l = omega arith
-method_start_below chapman_maxwell s y l = omega arith
-method_start_below boughton s y l = omega arith
-method_start_below eckhardt s y l = near_at_most (omega arith) (omega (arith, mul-le-mul_right y l.3))
-method_start_below tularam_ilahee s y l = omega arith
-method_start_below jakeman_hornberger s y l = omega arith
+method_start_below LyneHollick s y l = omega arith
+method_start_below Chapman1991 s y l = omega arith
+method_start_below ChapmanMaxwell s y l = omega arith
+method_start_below Boughton s y l = omega arith
+method_start_below Eckhardt s y l = near_at_most (omega arith) (omega (arith, mul-le-mul_right y l.3))
+method_start_below TularamIlahee s y l = omega arith
+method_start_below JakemanHornberger s y l = omega arith
 
 pub start_below : {s : Setting} → Usable s → (y : ℕ) → start rounded s y ≤ 1000 * y
 unfolding start

@@ -3,25 +3,27 @@
 use Prim.Native.Nat.{ℕ, ◌+◌, ◌-◌, ◌≤◌, ◌<◌}
 use mathlib.Core.Path.{◌≡◌, refl, sym, ◌∙◌, ap, subst}
 use mathlib.Core.Bool.{false}
-use mathlib.Core.List.{List, ◌++◌}
+use mathlib.Core.List.{List, ◌++◌, reverse}
 use mathlib.Core.Logic.{inl, inr, ⊎_elim, by_cases}
-use native.Mathlib.Nat.{lt_of_not-le, sub-add_cancel}
+use native.Mathlib.Nat.{lt_of_not-le}
 use native.Mathlib.Decide.{dec_le, ℕ_discrete}
 use native.Mathlib.Omega.{arith}
-use lib.ListN.{length, get_or, take, drop, set, length-set, get_or-eq_default}
+use lib.ListN.{length, get_or, take, drop, set, get_or-eq_default, length-reverse}
+use Rattle.std.proofs.lemmas.List.{get_or-reverse}
 use lib.Seq.{get_or-set_same, get_or-set_other}
 use Rattle.numbers.specs.Arithmetic.{rounded, Weights}
 use Rattle.numbers.specs.Scan.{scan}
-use Rattle.numbers.proofs.Scanning.{into_turn, into_end, place_turn, backward, back_turn, back_start, back_end}
+use Rattle.numbers.proofs.Scanning.{into_turn, into_end, place_turn}
 use Rattle.filter.specs.declared.Setting.{Setting}
 use Rattle.filter.specs.declared.DailyFilter.{DailyFilter}
 use Rattle.filter.specs.declared.pass.Previous.{Previous}
-use Rattle.filter.specs.declared.pass.Previous.TheVariants.{Nothing, Day}
+use Rattle.std.specs.Prelude.{Some, None}
+use Rattle.std.specs.Prelude as Code
 use Rattle.series.specs.Units.{no_value_mark}
 use Rattle.series.proofs.Views.{base_none, base_value, mark_none, mark_value}
 use Rattle.filter.specs.Passes.{step}
 use Rattle.filter.specs.Daily.{fresh, invalid_yesterday}
-use Rattle.filter.specs.Private.{Small, SmallBase, SmallList, SmallPrevious, day_state, day_mark, first_run, output, previous_after, output_on, pass_state, pass_mark, forward_run, backward_run}
+use Rattle.filter.specs.Private.{Small, SmallBase, SmallList, SmallPrevious, day_state, day_mark, first_run, output, previous_after, output_on, pass_state, pass_mark, forward_run}
 use Rattle.filter.proofs.MethodNumbers.{step_below}
 use Rattle.filter.proofs.Days.{Advance}
 
@@ -57,71 +59,57 @@ module _ (s : Setting) (days : List ℕ) where
   )
 
 -- passes 2 and 3
-abbrev pub PassDay : Weights → Previous → ℕ → Previous → ℕ → Type 0
+abbrev pub PassDay : Weights → Code.Option Previous → ℕ → Code.Option Previous → ℕ → Type 0
 PassDay w pr b pr' b' = ((pr' ≡ pass_state w pr b) × (b' ≡ pass_mark w pr b)) × (SmallPrevious pr' × SmallBase b')
-
-pub small_day : {pr : Previous} {v f : ℕ} → pr ≡ Day v f → SmallPrevious pr → Small v × Small f
-small_day e h = subst SmallPrevious e h
 
 -- a small number other than the mark is a small value
 pub a_value : {b : ℕ} → SmallBase b → (b ≡ no_value_mark → ⊥) → Small b
 a_value h e = ⊎_elim (λ m. absurd (e m)) (λ l. l) h
 
-module _ (w : Weights) {pr : Previous} where
-  pub starts : (u : ℕ) → pr ≡ Nothing → (u ≡ output w pr u) × (u ≤ u)
+module _ (w : Weights) {pr : Code.Option Previous} where
+  pub starts : (u : ℕ) → pr ≡ None → (u ≡ output w pr u) × (u ≤ u)
   unfolding output
-  starts u e = (rw e, omega arith)
+  starts u e = (rw e refl, omega arith)
 
-  pub goes_on : (u : ℕ) {v f r : ℕ} → pr ≡ Day v f → r ≡ step rounded w f u v → (r ≡ output w pr u) × (r ≤ u)
+  pub goes_on : (u : ℕ) {day : Previous} {r : ℕ} → pr ≡ Some day → r ≡ step rounded w day.output u day.input → (r ≡ output w pr u) × (r ≤ u)
   unfolding output
-  goes_on u {v} {f} e h = (rw e h, subst (λ n. n ≤ u) (sym h) (step_below w f u v))
+  goes_on u e h = (rw e h, subst (λ n. n ≤ u) (sym h) (step_below w _ u _))
 
-module _ (w : Weights) (pr : Previous) {b : ℕ} where
-  pub no_value_day : b ≡ no_value_mark → PassDay w pr b Nothing b
+module _ (w : Weights) (pr : Code.Option Previous) {b : ℕ} where
+  pub no_value_day : b ≡ no_value_mark → PassDay w pr b None b
   unfolding previous_after output_on
   no_value_day e = let m = base_none b e in ((sym (ap (previous_after w pr) m), e ∙ sym (rw m mark_none)), (tt, inl e))
 
-  pub value_day : {r : ℕ} → (b ≡ no_value_mark → ⊥) → Small b → r ≡ output w pr b → r ≤ b → PassDay w pr b (Day b r) r
+  pub value_day : {r : ℕ} → (b ≡ no_value_mark → ⊥) → Small b → r ≡ output w pr b → r ≤ b → PassDay w pr b (Some (record { input = b; output = r })) r
   unfolding previous_after output_on
   value_day e l h k =
       let m = base_value b e in
-      ((ap (Day b) h ∙ sym (ap (previous_after w pr) m), h ∙ sym (rw m (mark_value _))), ((l, omega arith), inr (omega arith)))
+      ((ap (λ f. Some (record { input = b; output = f })) h ∙ sym (ap (previous_after w pr) m), h ∙ sym (rw m (mark_value _))), ((l, omega arith), inr (omega arith)))
 
 module _ (w : Weights) (base₀ : List ℕ) where
-  pub record LaterPass (whole so_far base : List ℕ) (pr : Previous) : Type 0 where
-    pub same_length : length base ≡ length base₀
-    pub equal : so_far ≡ whole
+  pub record LaterPass (base : List ℕ) (pr : Code.Option Previous) (i : ℕ) : Type 0 where
+    pub so_far : take i base ++ scan (pass_state w) (pass_mark w) pr (drop i base) ≡ forward_run w base₀
     pub small_previous : SmallPrevious pr
     pub small : SmallList base
 
-  abbrev pub Forward : List ℕ → Previous → ℕ → Type 0
-  Forward base pr i = LaterPass (forward_run w base₀) (take i base ++ scan (pass_state w) (pass_mark w) pr (drop i base)) base pr
-
-  abbrev pub Backward : List ℕ → Previous → ℕ → Type 0
-  Backward base pr i = LaterPass (backward_run w base₀) (backward (pass_state w) (pass_mark w) 0 pr (take i base) ++ drop i base) base pr
-
-  pub forward_start : SmallList base₀ → Forward base₀ Nothing 0
+  pub later_start : SmallList base₀ → LaterPass base₀ None 0
   unfolding forward_run
-  forward_start h = record { same_length = refl; equal = refl; small_previous = tt; small = h }
+  later_start h = record { so_far = refl; small_previous = tt; small = h }
 
-  pub backward_start : SmallList base₀ → Backward base₀ Nothing (length base₀)
-  unfolding backward_run
-  backward_start h = record { same_length = refl; equal = back_start (pass_state w) (pass_mark w) 0 base₀ Nothing (length base₀) (omega arith); small_previous = tt; small = h }
+  pub later_turn : {base : List ℕ} {pr pr' : Code.Option Previous} {i b : ℕ} → i < length base → LaterPass base pr i → PassDay w pr (get_or base i 0) pr' b → LaterPass (set base i b) pr' (i + 1)
+  later_turn {base} {pr} {i = i} {b} h f p =
+      record {
+        so_far = place_turn (pass_state w) (pass_mark w) 0 base i pr h p.0.1 p.0.0 ∙ f.so_far;
+        small_previous = p.1.0;
+        small = λ j. small_set base i b p.1.1 j h (λ n. f.small j);
+      }
 
-  turned : {whole so_far so_far' base : List ℕ} {pr pr' : Previous} (i : ℕ) {b : ℕ} → i < length base → LaterPass whole so_far base pr → so_far' ≡ so_far → SmallPrevious pr' × SmallBase b → LaterPass whole so_far' (set base i b) pr'
-  turned {base = base} i {b} h f e s =
-      record { same_length = length-set base i b ∙ f.same_length; equal = e ∙ f.equal; small_previous = s.0; small = λ j. small_set base i b s.1 j h (λ n. f.small j) }
+  pub later_end : {base : List ℕ} {pr : Code.Option Previous} {i : ℕ} → length base ≤ i → LaterPass base pr i → (base ≡ forward_run w base₀) × SmallList base
+  later_end {base} {pr} {i} h f = (sym (into_end (pass_state w) (pass_mark w) base 0 base i pr h h) ∙ f.so_far, f.small)
 
-  pub forward_turn : {base : List ℕ} {pr pr' : Previous} {i b : ℕ} → i < length base → Forward base pr i → PassDay w pr (get_or base i 0) pr' b → Forward (set base i b) pr' (i + 1)
-  forward_turn {base} {pr} {i = i} h f p = turned i h f (place_turn (pass_state w) (pass_mark w) 0 base i pr h p.0.1 p.0.0) p.1
-
-  pub backward_turn : {base : List ℕ} {pr pr' : Previous} {i b : ℕ} → 0 < i → i ≤ length base → Backward base pr i → PassDay w pr (get_or base (i - 1) 0) pr' b → Backward (set base (i - 1) b) pr' (i - 1)
-  backward_turn {base} {pr} {i = i} z h f p =
-      turned (i - 1) (omega arith) f
-      (back_turn (pass_state w) (pass_mark w) 0 base (i - 1) pr (omega arith) p.0.1 p.0.0 ∙ ap (λ n. backward (pass_state w) (pass_mark w) 0 pr (take n base) ++ drop n base) (sub-add_cancel z)) p.1
-
-  pub forward_end : {base : List ℕ} {pr : Previous} {i : ℕ} → length base ≤ i → Forward base pr i → (base ≡ forward_run w base₀) × SmallList base
-  forward_end {base} {pr} {i} h f = (sym (into_end (pass_state w) (pass_mark w) base 0 base i pr h h) ∙ f.equal, f.small)
-
-  pub backward_end : {base : List ℕ} {pr : Previous} {i : ℕ} → i ≤ 0 → Backward base pr i → (base ≡ backward_run w base₀) × SmallList base
-  backward_end {base} {pr} {i} h f = (sym (back_end (pass_state w) (pass_mark w) 0 base pr i h) ∙ f.equal, f.small)
+-- a list turned round
+pub small_reverse : (base : List ℕ) → SmallList base → SmallList (reverse base)
+small_reverse base h i =
+    by_cases (dec_le (length base) i)
+    (λ k. subst SmallBase (sym (get_or-eq_default (reverse base) 0 (rw length-reverse k))) (inr (omega arith)))
+    (λ k. subst SmallBase (sym (get_or-reverse base i 0 (lt_of_not-le k))) (h (length base - 1 - i)))

@@ -1,6 +1,6 @@
 -- The two calls, the filter over a day list and the daily step: their orders of refusals, what they answer, and the base
 -- list and the state that they leave.
-use Rattle.std.specs.Prelude.{ℕ, List, [], ◌∷◌, map}
+use Rattle.std.specs.Prelude.{ℕ, List, [], ◌∷◌, map, Result, Ok, Err}
 use Rattle.std.proofs.Math.Option.{Option}
 use Rattle.numbers.specs.Arithmetic.{rounded}
 use Rattle.numbers.specs.Scan.{scan}
@@ -9,8 +9,8 @@ use Rattle.series.specs.Causes.{refusal_number, Cause, cause, Outcome, accepted,
 use Rattle.series.specs.Lists.{too_long, lengths_differ, any_invalid_day}
 use Rattle.filter.specs.declared.Setting.{Setting}
 use Rattle.filter.specs.declared.DailyFilter.{DailyFilter}
-use Rattle.filter.specs.declared.Step.{Step}
-use Rattle.filter.specs.declared.Step.TheVariants.{Next, Refused}
+use Rattle.filter.specs.declared.Advanced.{Advanced}
+use Rattle.filter.specs.declared.Refused.{Refused}
 use Rattle.filter.specs.Methods.{unknown_method, out_of_range, invalid_passes}
 use Rattle.filter.specs.Passes.{filtered}
 use Rattle.filter.specs.Daily.{invalid_yesterday, base_on, state_after}
@@ -55,6 +55,6 @@ unfolding step_rule
 steps_from s st days = scan (λ st d. (step_rule s st d).state) (λ st d. (step_rule s st d).outcome) st days
 
 -- document 01's numbers and values for each answer of the step
-abbrev pub outcome_of : Step → StepOutcome
-outcome_of (Next st b) = record { outcome = accepted (base_of b); state = st }
-outcome_of (Refused r st) = record { outcome = refused (refusal_number r); state = st }
+abbrev pub outcome_of : Result Advanced Refused → StepOutcome
+outcome_of (Ok next) = record { outcome = accepted (base_of next.base); state = next.state }
+outcome_of (Err cause) = record { outcome = refused (refusal_number cause.refusal); state = cause.state }

@@ -4,27 +4,27 @@ use Rattle.numbers.specs.Whole.{up, down}
 use Rattle.numbers.specs.Arithmetic.{Arithmetic, Weights, row}
 use Rattle.series.specs.Units.{within}
 use Rattle.filter.specs.declared.Setting.{Setting}
+use Rattle.filter.specs.declared.method.Method.{Method}
+use Rattle.filter.specs.declared.method.Method.TheVariants.{LyneHollick, Chapman1991, ChapmanMaxwell, Boughton, Eckhardt, TularamIlahee, JakemanHornberger}
 
-pub data Method : Type 0 where
-  lyne_hollick chapman_1991 chapman_maxwell boughton eckhardt tularam_ilahee jakeman_hornberger : Method
-
--- the method of a number from 1 to 7 (any other number is refused before it is read as one)
+-- the method (`Method`, of src/method.rt: the rows of the table by their authors) of a number from 1 to 7; any other number
+-- is refused before it is read as one
 unfoldable pub method_of : ℕ → Method
 method_of m =
-    cond (eqb m 1) lyne_hollick
-    (cond (eqb m 2) chapman_1991
-    (cond (eqb m 3) chapman_maxwell
-    (cond (eqb m 4) boughton (cond (eqb m 5) eckhardt (cond (eqb m 7) jakeman_hornberger tularam_ilahee)))))
+    cond (eqb m 1) LyneHollick
+    (cond (eqb m 2) Chapman1991
+    (cond (eqb m 3) ChapmanMaxwell
+    (cond (eqb m 4) Boughton (cond (eqb m 5) Eckhardt (cond (eqb m 7) JakemanHornberger TularamIlahee)))))
 
 -- A, B, C and d; C is a whole number of either sign
 unfoldable pub method_weights : Method → Setting → Weights
-method_weights lyne_hollick s = row (2 * s.p) (10000 - s.p) (pos (10000 - s.p)) 20000
-method_weights chapman_1991 s = row (3 * s.p - 10000) (10000 - s.p) (pos (10000 - s.p)) (30000 - s.p)
-method_weights chapman_maxwell s = row s.p (10000 - s.p) (pos 0) (20000 - s.p)
-method_weights boughton s = row s.p s.q (pos 0) (10000 + s.q)
-method_weights eckhardt s = row (s.p * (10000 - s.q)) ((10000 - s.p) * s.q) (pos 0) (100000000 - s.p * s.q)
-method_weights tularam_ilahee s = row s.p (10000 - s.p) (pos 0) 10000
-method_weights jakeman_hornberger s = row (10000 * s.p) (10000 * s.q) (s.s *ℤ pos s.q) (10000 * (10000 + s.q))
+method_weights LyneHollick s = row (2 * s.p) (10000 - s.p) (pos (10000 - s.p)) 20000
+method_weights Chapman1991 s = row (3 * s.p - 10000) (10000 - s.p) (pos (10000 - s.p)) (30000 - s.p)
+method_weights ChapmanMaxwell s = row s.p (10000 - s.p) (pos 0) (20000 - s.p)
+method_weights Boughton s = row s.p s.q (pos 0) (10000 + s.q)
+method_weights Eckhardt s = row (s.p * (10000 - s.q)) ((10000 - s.p) * s.q) (pos 0) (100000000 - s.p * s.q)
+method_weights TularamIlahee s = row s.p (10000 - s.p) (pos 0) 10000
+method_weights JakemanHornberger s = row (10000 * s.p) (10000 * s.q) (s.s *ℤ pos s.q) (10000 * (10000 + s.q))
 
 unfoldable pub weights : Setting → Weights
 unfolding method_weights
@@ -32,23 +32,23 @@ weights s = method_weights (method_of s.method) s
 
 -- the range of p and q; q is 0 in a row without it
 unfoldable pub method_range : Method → Setting → Bool
-method_range lyne_hollick s = within 1 9999 s.p && eqb s.q 0
-method_range chapman_1991 s = within 3334 9999 s.p && eqb s.q 0
-method_range chapman_maxwell s = within 1 9999 s.p && eqb s.q 0
-method_range boughton s = within 1 9999 s.p && within 1 10000 s.q
-method_range eckhardt s = within 1 9999 s.p && within 1 9999 s.q
-method_range tularam_ilahee s = within 1 9999 s.p && eqb s.q 0
-method_range jakeman_hornberger s = within 1 9999 s.p && within 1 10000 s.q
+method_range LyneHollick s = within 1 9999 s.p && eqb s.q 0
+method_range Chapman1991 s = within 3334 9999 s.p && eqb s.q 0
+method_range ChapmanMaxwell s = within 1 9999 s.p && eqb s.q 0
+method_range Boughton s = within 1 9999 s.p && within 1 10000 s.q
+method_range Eckhardt s = within 1 9999 s.p && within 1 9999 s.q
+method_range TularamIlahee s = within 1 9999 s.p && eqb s.q 0
+method_range JakemanHornberger s = within 1 9999 s.p && within 1 10000 s.q
 
 -- how far s may lie from 0: not at all where the row has none
 unfoldable pub method_span : Method → ℕ
-method_span lyne_hollick = 0
-method_span chapman_1991 = 0
-method_span chapman_maxwell = 0
-method_span boughton = 0
-method_span eckhardt = 0
-method_span tularam_ilahee = 0
-method_span jakeman_hornberger = 9999
+method_span LyneHollick = 0
+method_span Chapman1991 = 0
+method_span ChapmanMaxwell = 0
+method_span Boughton = 0
+method_span Eckhardt = 0
+method_span TularamIlahee = 0
+method_span JakemanHornberger = 9999
 
 -- a number of either sign lies from -n to n
 unfoldable pub spans : (n : ℕ) → ℤ → Bool
@@ -60,13 +60,13 @@ in_range s = method_range (method_of s.method) s && spans (method_span (method_o
 
 -- the usual start of pass 1, on a day of flow y: 500 × y, but near(9 × q × y / 100) in method 5
 unfoldable pub method_start : (S : Arithmetic) → Method → Setting → (y : ℕ) → S.Number
-method_start S lyne_hollick s y = S.number (500 * y)
-method_start S chapman_1991 s y = S.number (500 * y)
-method_start S chapman_maxwell s y = S.number (500 * y)
-method_start S boughton s y = S.number (500 * y)
-method_start S eckhardt s y = S.quotient (S.number (9 * s.q * y)) 100
-method_start S tularam_ilahee s y = S.number (500 * y)
-method_start S jakeman_hornberger s y = S.number (500 * y)
+method_start S LyneHollick s y = S.number (500 * y)
+method_start S Chapman1991 s y = S.number (500 * y)
+method_start S ChapmanMaxwell s y = S.number (500 * y)
+method_start S Boughton s y = S.number (500 * y)
+method_start S Eckhardt s y = S.quotient (S.number (9 * s.q * y)) 100
+method_start S TularamIlahee s y = S.number (500 * y)
+method_start S JakemanHornberger s y = S.number (500 * y)
 
 unfoldable pub start : (S : Arithmetic) → Setting → (y : ℕ) → S.Number
 unfolding method_start

@@ -1,28 +1,23 @@
 // The daily step: pass 1 for one day, with the state that goes from day to day.
-ghost use Rattle.std.specs.Prelude.{◌≡◌, false};
-ghost use Rattle.series.specs.Units.{is_invalid_day, no_value_mark};
-ghost use Rattle.filter.specs.Methods.{weights, Usable};
-ghost use Rattle.filter.specs.declared.Yesterday.TheVariants.{Known};
-ghost use Rattle.filter.specs.Daily.{fresh, after, invalid_yesterday};
-ghost use Rattle.filter.specs.Call.{step_rule, outcome_of};
-ghost use Rattle.filter.specs.Private.{weights_of, Moderate, SmallBase, day_state, day_mark};
+ghost use Rattle.std.specs.Prelude.{◌≡◌, false, ◌≤◌, ◌*◌, IfOk};
+ghost use Rattle.series.specs.Units.{is_invalid_day};
+ghost use Rattle.series.specs.Causes.{first_cause, refusal_of};
+ghost use Rattle.filter.specs.Daily.{fresh, invalid_yesterday, day_base};
+ghost use Rattle.filter.specs.Call.{step_causes, step_rule, outcome_of};
+ghost use Rattle.filter.specs.Private.{SmallBase, day_state, day_mark};
 
-use crate::method::{Coefficients, out_of_range, unknown_method};
-use crate::{DailyFilter, Setting, Step, Yesterday, method};
-use series::Refusal;
+use crate::usable::Filter;
+use crate::{Advanced, DailyFilter, Refused, Setting, Yesterday};
+use series::{Refusal, refuse_if};
 
-// A day's base value, and the state after it.
-#[derive(Clone, Copy)]
-pub struct Advanced {
-    pub state: DailyFilter,
-    pub base: u64,
-}
-
-// 15: yesterday's flow is over its limit, or its base over 1000 × the flow.
-fn invalid_yesterday(flow: u32, base: u64) -> bool
-    ensures { result ≡ invalid_yesterday (Known flow base) }
-{
-    DailyFilter::FLOW_LIMIT < flow || 1000 * (flow as u64) < base
+impl Yesterday {
+    // 15: its flow is over the limit, or its base over 1000 × the flow.
+    #[tactic(auto, unfolding(crate::specs::Daily::invalid_yesterday))]
+    fn is_invalid(self) -> bool
+        ensures { result ≡ invalid_yesterday (Some self) }
+    {
+        DailyFilter::FLOW_LIMIT < self.flow || 1000 * u64::from(self.flow) < self.base
+    }
 }
 
 impl DailyFilter {
@@ -35,145 +30,78 @@ impl DailyFilter {
     pub fn fresh() -> Self
         ensures { result ≡ fresh }
     {
-        DailyFilter {
-            yesterday: Yesterday::Unknown,
-        }
+        DailyFilter { yesterday: None }
     }
 
     // The day's base value by the setting's filter, from the state that the day before left.
-    pub fn step(self, setting: Setting, day: u32) -> Step
+    pub fn step(self, setting: Setting, day: u32) -> Result<Advanced, Refused>
         ensures { outcome_of result ≡ step_rule setting self day }
     {
-        if unknown_method(setting) {
-            return Step::Refused {
-                refusal: Refusal::UnknownMethod,
+        // Kept: a match, since the refusal takes the state with it: `map_err` with a closure is as long.
+        match self.check(setting, day) {
+            Ok(filter) => Ok(filter.advance(self, day)),
+            Err(refusal) => Err(Refused {
+                refusal,
                 state: self,
+            }),
+        }
+    }
+
+    // 15: its yesterday is invalid.
+    #[tactic(auto, unfolding(crate::specs::Daily::invalid_yesterday))]
+    fn is_invalid(self) -> bool
+        ensures { result ≡ invalid_yesterday self.yesterday }
+    {
+        self.yesterday.is_some_and(|day| day.is_invalid())
+    }
+
+    // The filter of a step, unless one of its causes of refusal holds; the causes in their order.
+    #[tactic(auto, unfolding(crate::specs::Call::step_causes))]
+    fn check(self, setting: Setting, day: u32) -> Result<Filter, Refusal>
+        ensures refusal { refusal_of result ≡ first_cause (step_causes setting self day) }
+        ensures of_setting { IfOk result (λ f. f.setting ≡ setting) }
+    {
+        let filter = Filter::new(setting)?;
+        refuse_if(self.is_invalid(), Refusal::InvalidState)?;
+        refuse_if(series::is_invalid_day(day), Refusal::InvalidDay)?;
+        Ok(filter)
+    }
+}
+
+impl Filter {
+    // The step over input that has passed its checks: what pass 1 does with each day.
+    pub(crate) fn advance(self, state: DailyFilter, day: u32) -> Advanced
+        requires { (invalid_yesterday state.yesterday ≡ false) × (is_invalid_day day ≡ false) }
+        ensures state_value { (result.state ≡ day_state self.setting state day) × (result.base ≡ day_mark self.setting state day) }
+        ensures next_yesterday { (invalid_yesterday result.state.yesterday ≡ false) × SmallBase result.base }
+    {
+        if day == series::MISSING {
+            return Advanced {
+                state: DailyFilter::fresh(),
+                base: series::NO_VALUE,
             };
         }
-        if out_of_range(setting) {
-            return Step::Refused {
-                refusal: Refusal::ParameterOutOfRange,
-                state: self,
-            };
+        let base = self.present(state.yesterday, day);
+        let yesterday = Yesterday { flow: day, base };
+        Advanced {
+            state: DailyFilter {
+                yesterday: Some(yesterday),
+            },
+            base,
         }
-        let w = method::table_row(setting);
-        let yesterday = self.yesterday;
+    }
+
+    // The base value of a day that is not missing: a segment's first, or one behind a yesterday.
+    fn present(self, yesterday: Option<Yesterday>, flow: u32) -> u64
+        requires valid { invalid_yesterday yesterday ≡ false }
+        requires small { flow ≤ 10000000 }
+        ensures value { result ≡ day_base self.setting yesterday flow }
+        ensures below { result ≤ 1000 * flow }
+    {
+        let flow = u64::from(flow);
         match yesterday {
-            Yesterday::Unknown => first_step(setting, day),
-            Yesterday::Known { flow, base } => next_step(setting, w, flow, base, day),
+            None => self.first_day(flow),
+            Some(day) => self.smoothed(day.base, 1000 * flow, 1000 * u64::from(day.flow)),
         }
-    }
-}
-
-// The step of a setting that can be used, without a yesterday: of the causes 10 is left.
-fn first_step(setting: Setting, day: u32) -> Step
-    requires { Usable setting }
-    ensures { outcome_of result ≡ step_rule setting fresh day }
-{
-    if series::is_invalid_day(day) {
-        return Step::Refused {
-            refusal: Refusal::InvalidDay,
-            state: DailyFilter::fresh(),
-        };
-    }
-    let next = started(setting, day);
-    let state = next.state;
-    Step::Next {
-        state,
-        base: next.base,
-    }
-}
-
-// The step with a yesterday: of the causes 15 and 10 are left.
-fn next_step(setting: Setting, w: Coefficients, flow: u32, base: u64, day: u32) -> Step
-    requires usable { Usable setting }
-    requires w_value { (weights_of w ≡ weights setting) × Moderate (weights_of w) }
-    ensures { outcome_of result ≡ step_rule setting (after flow base) day }
-{
-    let state = DailyFilter {
-        yesterday: Yesterday::Known { flow, base },
-    };
-    if invalid_yesterday(flow, base) {
-        return Step::Refused {
-            refusal: Refusal::InvalidState,
-            state,
-        };
-    }
-    if series::is_invalid_day(day) {
-        return Step::Refused {
-            refusal: Refusal::InvalidDay,
-            state,
-        };
-    }
-    let next = carried(setting, w, flow, base, day);
-    let state = next.state;
-    Step::Next {
-        state,
-        base: next.base,
-    }
-}
-
-// The step over input that has passed its checks: what pass 1 does with each day.
-pub(crate) fn advance(state: DailyFilter, setting: Setting, w: Coefficients, day: u32) -> Advanced
-    requires usable { Usable setting }
-    requires w_value { (weights_of w ≡ weights setting) × Moderate (weights_of w) }
-    requires yesterday_value { (invalid_yesterday state.yesterday ≡ false) × (is_invalid_day day ≡ false) }
-    ensures state_value { (result.state ≡ day_state setting state day) × (result.base ≡ day_mark setting state day) }
-    ensures next_yesterday { (invalid_yesterday result.state.yesterday ≡ false) × SmallBase result.base }
-{
-    let yesterday = state.yesterday;
-    match yesterday {
-        Yesterday::Unknown => started(setting, day),
-        Yesterday::Known { flow, base } => carried(setting, w, flow, base, day),
-    }
-}
-
-// A missing day.
-fn missing() -> Advanced
-    ensures { (result.state ≡ fresh) × (result.base ≡ no_value_mark) }
-{
-    Advanced {
-        state: DailyFilter::fresh(),
-        base: series::NO_VALUE,
-    }
-}
-
-// A day without a yesterday: missing, or a segment's first.
-fn started(setting: Setting, day: u32) -> Advanced
-    requires { Usable setting × (is_invalid_day day ≡ false) }
-    ensures state_value { (result.state ≡ day_state setting fresh day) × (result.base ≡ day_mark setting fresh day) }
-    ensures yesterday_value { (invalid_yesterday result.state.yesterday ≡ false) × SmallBase result.base }
-{
-    if day == series::MISSING {
-        return missing();
-    }
-    let base = method::first_day(setting, day as u64);
-    let known = Yesterday::Known { flow: day, base };
-    Advanced {
-        state: DailyFilter { yesterday: known },
-        base,
-    }
-}
-
-// A day behind one of flow `flow` and base `base`.
-fn carried(setting: Setting, w: Coefficients, flow: u32, base: u64, day: u32) -> Advanced
-    requires w_value { (weights_of w ≡ weights setting) × Moderate (weights_of w) }
-    requires base_value { (invalid_yesterday (Known flow base) ≡ false) × (is_invalid_day day ≡ false) }
-    ensures state_value { (result.state ≡ day_state setting (after flow base) day) × (result.base ≡ day_mark setting (after flow base) day) }
-    ensures yesterday_value { (invalid_yesterday result.state.yesterday ≡ false) × SmallBase result.base }
-{
-    if day == series::MISSING {
-        return missing();
-    }
-    let u = 1000 * (day as u64);
-    let v = 1000 * (flow as u64);
-    let value = method::smoothed(w, base, u, v);
-    let known = Yesterday::Known {
-        flow: day,
-        base: value,
-    };
-    Advanced {
-        state: DailyFilter { yesterday: known },
-        base: value,
     }
 }

@@ -5,16 +5,17 @@
 mod daily;
 mod method;
 mod pass;
+mod usable;
 
-ghost use Rattle.std.specs.Prelude.{◌≡◌};
-ghost use Rattle.series.specs.Causes.{refusal_of, first_cause, Decides};
+ghost use Rattle.std.specs.Prelude.{◌≡◌, IfOk};
+ghost use Rattle.series.specs.Causes.{refusal_of, first_cause};
 ghost use Rattle.filter.specs.Call.{filter_causes, filter_leaves};
 
-use method::{invalid_passes, out_of_range, unknown_method};
-use series::{Refusal, Verdict, lengths_differ, refuse_if};
+use series::{Refusal, refuse_if};
+use usable::Filter;
 
 // A filter's setting: the method's number and its parameters in ten-thousandths; q and s are 0 where the method has none.
-#[derive(Clone, Copy)]
+#[derive(Clone, Copy, Debug, PartialEq, Eq)]
 pub struct Setting {
     pub method: u32,
     pub p: u32,
@@ -22,56 +23,54 @@ pub struct Setting {
     pub s: i32,
 }
 
-// What the daily filter knows of the day before: its flow in litres a second and its base in thousandths, or nothing.
-#[derive(Clone, Copy)]
-pub enum Yesterday {
-    Unknown,
-    Known { flow: u32, base: u64 },
+// A day behind the daily filter: its flow in litres a second and its base in thousandths.
+#[derive(Clone, Copy, Debug, PartialEq, Eq)]
+pub struct Yesterday {
+    pub flow: u32,
+    pub base: u64,
 }
 
-// The state of the daily step.
-#[derive(Clone, Copy)]
+// The state of the daily step: the day before, where it is known.
+#[derive(Clone, Copy, Debug, PartialEq, Eq)]
 pub struct DailyFilter {
-    pub yesterday: Yesterday,
+    pub yesterday: Option<Yesterday>,
 }
 
-// What a step answers: the next state with the day's base value, series::NO_VALUE on a missing day; or the refusal
-// with the state that was given.
-#[derive(Clone, Copy)]
-pub enum Step {
-    Next {
-        state: DailyFilter,
-        base: u64,
-    },
-    Refused {
-        refusal: Refusal,
-        state: DailyFilter,
-    },
+// A day's base value, series::NO_VALUE on a missing day, and the state after it.
+#[derive(Clone, Copy, Debug, PartialEq, Eq)]
+pub struct Advanced {
+    pub state: DailyFilter,
+    pub base: u64,
+}
+
+// Why a step refused, and the state that was given.
+#[derive(Clone, Copy, Debug, PartialEq, Eq)]
+pub struct Refused {
+    pub refusal: Refusal,
+    pub state: DailyFilter,
 }
 
 // Base flow of a day list by a setting's filter, after 1 to 3 passes, into a base list of the same length.
-pub fn filter(setting: Setting, passes: u32, days: &[u32], base: &mut [u64]) -> Verdict
+pub fn filter(setting: Setting, passes: u32, days: &[u32], base: &mut [u64]) -> Result<(), Refusal>
     ensures result_value { refusal_of result ≡ first_cause (filter_causes setting passes days.now base.old) }
     ensures base_after { base.new ≡ filter_leaves setting passes days.now base.old }
 {
-    let verdict = check(setting, passes, days, base);
-    if let Verdict::Refused(refusal) = verdict {
-        return Verdict::Refused(refusal);
-    }
-    pass::run(setting, passes, days, base);
-    Verdict::Accepted
+    let filter = check(setting, passes, days, base)?;
+    filter.run(passes, days, base);
+    Ok(())
 }
 
-// The causes of refusal of `filter`, in their order.
-fn check(setting: Setting, passes: u32, days: &[u32], base: &[u64]) -> Verdict
-    ensures { Decides (filter_causes setting passes days.now base.now) result }
+// The filter of a call, unless one of its causes of refusal holds; the causes in their order.
+#[tactic(auto, unfolding(crate::specs::Call::filter_causes, series::specs::Lists::too_long))]
+fn check(setting: Setting, passes: u32, days: &[u32], base: &[u64]) -> Result<Filter, Refusal>
+    ensures refusal { refusal_of result ≡ first_cause (filter_causes setting passes days.now base.now) }
+    ensures of_setting { IfOk result (λ f. f.setting ≡ setting) }
 {
-    let v = Verdict::Accepted;
-    let v = refuse_if(v, unknown_method(setting), Refusal::UnknownMethod);
-    let v = refuse_if(v, out_of_range(setting), Refusal::ParameterOutOfRange);
-    let v = refuse_if(v, invalid_passes(setting, passes), Refusal::InvalidPasses);
-    let too_long = DailyFilter::DAY_LIMIT < days.len();
-    let v = refuse_if(v, too_long, Refusal::DayListTooLong);
-    let v = refuse_if(v, lengths_differ(days, base), Refusal::LengthsDiffer);
-    refuse_if(v, series::any_invalid_day(days), Refusal::InvalidDay)
+    let filter = Filter::new(setting)?;
+    refuse_if(filter.refuses_passes(passes), Refusal::InvalidPasses)?;
+    // Kept: not series::check_lists, since 9 is tested with the daily filter's own limit (a rule of the project).
+    refuse_if(DailyFilter::DAY_LIMIT < days.len(), Refusal::DayListTooLong)?;
+    refuse_if(series::lengths_differ(days, base), Refusal::LengthsDiffer)?;
+    refuse_if(series::any_invalid_day(days), Refusal::InvalidDay)?;
+    Ok(filter)
 }

@@ -1,121 +1,115 @@
 // The passes over whole lists: pass 1 from the day list into the base list, passes 2 and 3 in place.
 ghost use Rattle.std.specs.Prelude.{◌≡◌, false, ◌≤◌, length};
 ghost use Rattle.series.specs.Lists.{any_invalid_day};
-ghost use Rattle.filter.specs.Methods.{weights, invalid_passes, Usable};
+ghost use Rattle.filter.specs.Methods.{weights, invalid_passes};
 ghost use Rattle.filter.specs.Call.{filtered_list};
-ghost use Rattle.filter.specs.Private.{weights_of, Moderate, Small, SmallBase, SmallList, SmallPrevious, first_run, output, pass_state, pass_mark, forward_run, backward_run};
+ghost use Rattle.filter.specs.Private.{Small, SmallBase, SmallList, SmallPrevious, first_run, output, pass_state, pass_mark, forward_run, backward_run};
 
-use crate::method::Coefficients;
-use crate::{DailyFilter, Setting, daily, method};
+use crate::DailyFilter;
+use crate::usable::Filter;
 
-// The day that a pass looked at last: its u and its f, or nothing before a segment's first day.
+// The day that a pass looked at last: its u and its f.
 #[derive(Clone, Copy)]
-pub enum Previous {
-    Nothing,
-    Day { input: u64, output: u64 },
+pub(crate) struct Previous {
+    input: u64,
+    output: u64,
 }
 
-// A day's f, and what the next day sees of it.
+// A day's f, and what the next day sees of it: nothing before a segment's first day.
 #[derive(Clone, Copy)]
-pub struct Passed {
-    pub previous: Previous,
-    pub base: u64,
+struct Passed {
+    previous: Option<Previous>,
+    base: u64,
 }
 
-// The passes of an accepted call.
-pub(crate) fn run(setting: Setting, passes: u32, days: &[u32], base: &mut [u64])
-    requires usable { Usable setting × (invalid_passes setting passes ≡ false) }
-    requires days_value { (any_invalid_day days.now ≡ false) × (length days.now ≡ length base.old) }
-    ensures { base.new ≡ filtered_list setting passes days.now }
-{
-    let w = method::table_row(setting);
-    first_pass(setting, w, days, base);
-    if passes == 1 {
-        return;
+// Kept: that the values of a list are small is a clause of its passes; a type of small numbers would be taken apart at each use.
+impl Filter {
+    // The passes of an accepted call.
+    pub(crate) fn run(self, passes: u32, days: &[u32], base: &mut [u64])
+        requires passes_value { invalid_passes self.setting passes ≡ false }
+        requires days_value { (any_invalid_day days.now ≡ false) × (length days.now ≡ length base.old) }
+        ensures { base.new ≡ filtered_list self.setting passes days.now }
+    {
+        self.first_pass(days, base);
+        // Kept: passes are a number, of which each needs the one before; an enum of three would be read back as that number.
+        if passes == 1 {
+            return;
+        }
+        self.backward_pass(base);
+        if passes == 2 {
+            return;
+        }
+        self.forward_pass(base);
     }
-    backward_pass(w, base);
-    if passes == 2 {
-        return;
-    }
-    forward_pass(w, base);
-}
 
-// Pass 1: a daily step on each day, from the fresh state.
-fn first_pass(setting: Setting, w: Coefficients, days: &[u32], base: &mut [u64])
-    requires usable { Usable setting }
-    requires w_value { (weights_of w ≡ weights setting) × Moderate (weights_of w) }
-    requires days_value { (any_invalid_day days.now ≡ false) × (length days.now ≡ length base.old) }
-    ensures { (base.new ≡ first_run setting days.now) × SmallList base.new }
-{
-    let mut state = DailyFilter::fresh();
-    let mut t = 0;
-    while t < days.len() {
-        let next = daily::advance(state, setting, w, days[t]);
-        base[t] = next.base;
-        state = next.state;
-        t += 1;
+    // Pass 1: a daily step on each day, from the fresh state.
+    fn first_pass(self, days: &[u32], base: &mut [u64])
+        requires { (any_invalid_day days.now ≡ false) × (length days.now ≡ length base.old) }
+        ensures { (base.new ≡ first_run self.setting days.now) × SmallList base.new }
+    {
+        let mut state = DailyFilter::fresh();
+        // Kept: days by their index, since behind a zip of iter_mut a proof knows no value that was written.
+        for (t, value) in base.iter_mut().enumerate() {
+            let next = self.advance(state, days[t]);
+            *value = next.base;
+            state = next.state;
+        }
     }
-}
 
-// Pass 2: from the last day to the first.
-fn backward_pass(w: Coefficients, base: &mut [u64])
-    requires { Moderate (weights_of w) × SmallList base.old }
-    ensures { (base.new ≡ backward_run (weights_of w) base.old) × SmallList base.new }
-{
-    let mut previous = Previous::Nothing;
-    let mut i = base.len();
-    while 0 < i {
-        i -= 1;
-        let next = pass_day(w, previous, base[i]);
-        base[i] = next.base;
-        previous = next.previous;
+    // Pass 2: from the last day to the first.
+    fn backward_pass(self, base: &mut [u64])
+        requires { SmallList base.old }
+        ensures { (base.new ≡ backward_run (weights self.setting) base.old) × SmallList base.new }
+    {
+        base.reverse();
+        self.forward_pass(base);
+        base.reverse();
     }
-}
 
-// Pass 3: from the first day to the last.
-fn forward_pass(w: Coefficients, base: &mut [u64])
-    requires { Moderate (weights_of w) × SmallList base.old }
-    ensures { (base.new ≡ forward_run (weights_of w) base.old) × SmallList base.new }
-{
-    let mut previous = Previous::Nothing;
-    let mut i = 0;
-    while i < base.len() {
-        let next = pass_day(w, previous, base[i]);
-        base[i] = next.base;
-        previous = next.previous;
-        i += 1;
+    // Pass 3: from the first day to the last.
+    fn forward_pass(self, base: &mut [u64])
+        requires { SmallList base.old }
+        ensures { (base.new ≡ forward_run (weights self.setting) base.old) × SmallList base.new }
+    {
+        let mut previous = None;
+        for value in base.iter_mut() {
+            let passed = self.pass_day(previous, *value);
+            *value = passed.base;
+            previous = passed.previous;
+        }
     }
-}
 
-// One day of pass 2 or 3, whose u is `base`.
-fn pass_day(w: Coefficients, previous: Previous, base: u64) -> Passed
-    requires { Moderate (weights_of w) × (SmallPrevious previous × SmallBase base) }
-    ensures previous_value { (result.previous ≡ pass_state (weights_of w) previous base) × (result.base ≡ pass_mark (weights_of w) previous base) }
-    ensures small_previous { SmallPrevious result.previous × SmallBase result.base }
-{
-    if base == series::NO_VALUE {
-        return Passed {
-            previous: Previous::Nothing,
-            base,
-        };
-    }
-    let f = present_day(w, previous, base);
-    Passed {
-        previous: Previous::Day {
+    // One day of pass 2 or 3, whose u is `base`.
+    fn pass_day(self, previous: Option<Previous>, base: u64) -> Passed
+        requires { SmallPrevious previous × SmallBase base }
+        ensures previous_value { (result.previous ≡ pass_state (weights self.setting) previous base) × (result.base ≡ pass_mark (weights self.setting) previous base) }
+        ensures small_previous { SmallPrevious result.previous × SmallBase result.base }
+    {
+        if base == series::NO_VALUE {
+            return Passed {
+                previous: None,
+                base,
+            };
+        }
+        let f = self.present_day(previous, base);
+        let day = Previous {
             input: base,
             output: f,
-        },
-        base: f,
+        };
+        Passed {
+            previous: Some(day),
+            base: f,
+        }
     }
-}
 
-// f on a present day of input u.
-fn present_day(w: Coefficients, previous: Previous, u: u64) -> u64
-    requires { Moderate (weights_of w) × (SmallPrevious previous × Small u) }
-    ensures { (result ≡ output (weights_of w) previous u) × (result ≤ u) }
-{
-    match previous {
-        Previous::Nothing => u,
-        Previous::Day { input, output } => method::smoothed(w, output, u, input),
+    // f on a present day of input u.
+    fn present_day(self, previous: Option<Previous>, u: u64) -> u64
+        requires { SmallPrevious previous × Small u }
+        ensures { (result ≡ output (weights self.setting) previous u) × (result ≤ u) }
+    {
+        match previous {
+            None => u,
+            Some(day) => self.smoothed(day.output, u, day.input),
+        }
     }
 }

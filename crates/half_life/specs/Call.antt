@@ -1,10 +1,8 @@
 -- The half-life call: its one cause of refusal, and what it answers.
 use Rattle.std.specs.Prelude.{ℕ, not, List, [], ◌∷◌}
 use Rattle.series.specs.Units.{within}
-use Rattle.series.specs.Causes.{Cause, cause, Outcome, accepted, refused, outcome, refusal_number}
+use Rattle.series.specs.Causes.{Cause, cause, Outcome, accepted, refused, outcome}
 use Rattle.half_life.specs.Rule.{half_life, HalfLife}
-use Rattle.half_life.specs.declared.Answer.{Answer}
-use Rattle.half_life.specs.declared.Answer.TheVariants.{Days, Refused}
 
 -- order: half-life 12; p is 1 to 999 thousandths
 unfoldable pub half_life_causes : (p : ℕ) → List Cause
@@ -13,11 +11,6 @@ half_life_causes p = cause (not (within 1 999 p)) 12 ∷ []
 -- the answer: the number of days
 unfoldable pub half_life_outcome : (p : ℕ) → Outcome ℕ
 half_life_outcome p = outcome (half_life_causes p) (half_life p)
-
--- the number or the value of each answer
-abbrev pub outcome_of : Answer → Outcome ℕ
-outcome_of (Days n) = accepted n
-outcome_of (Refused r) = refused (refusal_number r)
 
 -- what an accepted call promises of the number that it answers
 abbrev pub Promised : Outcome ℕ → (p : ℕ) → Type 0

@@ -1,49 +1,70 @@
 -- The lists with gaps, segment by segment: where a segment ends, whether one has two turning points, and the lines of all.
 -- Assumes nothing.
 use Prim.Native.Nat.{ℕ, suc, ◌+◌, ◌-◌, ◌≤◌, ◌<◌}
-use mathlib.Core.Path.{◌≡◌, refl, sym, ◌∙◌, ap, ap₂, subst}
-use mathlib.Core.Bool.{Bool, true, false, true≢false, not, ◌&&◌, ◌||◌, and-true, or-false}
+use mathlib.Core.Path.{◌≡◌, refl, sym, ◌∙◌, ap, ap₂}
+use mathlib.Core.Bool.{Bool, true, false, true≢false, not, not-not, ◌&&◌, ◌||◌, and-true, or-false}
 use mathlib.Core.List.Memᴰ
 use mathlib.Core.List.{List, [], ◌∷◌, ◌++◌, map, map-append, append-nil, Memᴰ}
-use mathlib.Core.Option.{Option, none, some}
-use mathlib.Core.Logic.{by_cases, ⊎_elim}
+use mathlib.Core.Option as maybe
+use mathlib.Core.Option.{none, some}
+use mathlib.Core.Logic.{⊎_elim}
 use native.Mathlib.Nat.{add-zero, add-sub_of_le, lt_of_not-le}
 use native.Mathlib.Numerals.{add-one}
-use native.Mathlib.Decide.{dec_le, ℕ_discrete}
+use native.Mathlib.Decide.{dec_le}
 use native.Mathlib.Omega.{arith}
-use lib.ListN.{length, get_or, take, drop, length-append, length-drop, take-append-drop, drop_of_length-le, get_or-append}
-use lib.Seq.{length-take-le, get_or-take, get_or-drop, get_or-append-add, drop-drop, drop_at, drop-cons, ext_get_or}
-use lib.Dec.{ltb}
-use borrow.Author.Tests.{eq-eqb, ne_eqb, lt-ltb, le-ltb}
+use lib.ListN.{length, get_or, take, drop, length-drop, take-append-drop, drop_of_length-le, get_or-append}
+use lib.Seq.{length-take-le, get_or-take, get_or-drop, drop-drop, drop_at, drop-cons, ext_get_or}
+use Rattle.std.proofs.Common.{Option, Some, None, is_some, ◌==◌}
+use Rattle.std.specs.Option.{unwrap_or}
+use Rattle.std.specs.List.{position, position_or_len}
+use borrow.Author.Tests.{eq-eqb, eqb-true}
+use Rattle.std.proofs.lemmas.Bool.Decides.{nat_tests}
+use Rattle.std.proofs.lemmas.List.Sums.{prefix_len-le-length, fails_before_first, passes_at_first}
 use Rattle.numbers.specs.Arithmetic.{rounded}
 use Rattle.series.specs.Units.{day_limit, missing_mark, no_value_mark, day_of, base_mark}
 use Rattle.series.proofs.Alone.{over_one}
 use Rattle.series.proofs.SegmentParts.{parts_gap, parts_one, over_before_gap}
 use Rattle.series.proofs.Views.{one_of, neither_of, day_missing, day_present, mark_none}
 use Rattle.minima.specs.declared.block.Blocks.{Blocks}
-use Rattle.minima.specs.declared.segment.Points.{Points}
-use Rattle.minima.specs.declared.segment.Lined.{Lined}
+use Rattle.minima.specs.declared.block.Points.{Points}
+use Rattle.minima.specs.declared.river.Lined.{Lined}
 use Rattle.minima.specs.TurningPoints.{counting}
 use Rattle.minima.specs.Line.{line, line_over}
 use Rattle.minima.specs.Call.{has_two, any_of, no_line, line_list}
-use Rattle.minima.specs.Private.{FirstTwo, Filled, Blank, Present, SegmentEnd, Apart, LinedAt, NextLined}
+use Rattle.minima.specs.Private.{FirstPoints, Filled, Room, segment_end, Apart, LinedAt, NextAt, Nowhere, NextLined}
 use Rattle.minima.proofs.Points.{count_fits, all_points, no_triples}
-use Rattle.minima.proofs.Pieces.{first_inside}
+use Rattle.minima.proofs.Pieces.{two_found}
 use Rattle.minima.proofs.Lengths.{line_list_length}
-use Rattle.minima.proofs.SegmentLine.{further, list_length, no_values}
+use Rattle.minima.proofs.SegmentLine.{given_back, given_back_lem, further, list_length, no_values}
 
--- days that are present, one by one
-module _ (days : List ℕ) {from : ℕ} where
-  pub present_none : from ≤ length days → Present days from from
-  present_none h = record { forward = omega arith; inside = h; present = λ d k l. absurd (omega arith) }
+-- the first missing day's position, or the list's length
+pub found_or_all : (test : ℕ → Bool) (ys : List ℕ) → unwrap_or (position test ys) (length ys) ≡ position_or_len test ys
+found_or_all test ys = grind (arith, nat_tests, prefix_len-le-length)
 
-  pub present_one : {end : ℕ} → Present days from end → end < length days → (get_or days end 0 ≡ missing_mark → ⊥) → Present days from (end + 1)
-  present_one {end} p h n =
-      record {
-        forward = omega (arith, p.forward);
-        inside = omega arith;
-        present = λ d k l. by_cases (ℕ_discrete d end) (λ e m. n (subst (λ x. get_or days x 0 ≡ missing_mark) e m)) (λ e. p.present d k (omega arith));
-      }
+-- the days from `from` to before e are present, and e is missing or the list's end
+record SegmentEnd (days : List ℕ) (from e : ℕ) : Type 0 where
+  forward : from ≤ e
+  inside : e ≤ length days
+  present : (d : ℕ) → from ≤ d → d < e → get_or days d 0 ≡ missing_mark → ⊥
+  missing : e < length days → get_or days e 0 ≡ missing_mark
+
+ended : (days : List ℕ) {from e : ℕ} → from ≤ length days → e ≡ segment_end days from → SegmentEnd days from e
+ended days {from} {e} h q =
+    record {
+      forward = omega arith;
+      inside = omega (arith, length-drop from days, prefix_len-le-length (λ day. not (test day)) rest);
+      present = λ d k l m. true≢false (sym (eq-eqb (get_or days d 0) missing_mark m) ∙ ap test (sym (at d k)) ∙ fails_before_first test rest (d - from) 0 (omega arith));
+      missing = λ l. eqb-true (get_or days e 0) missing_mark (ap test (sym (at e (omega arith)) ∙ ap (λ n. get_or rest n 0) (omega arith)) ∙ passes_at_first test rest 0 (omega (arith, length-drop from days)));
+    }
+  where
+    test : ℕ → Bool
+    test day = day == missing_mark
+
+    rest : List ℕ
+    rest = drop from days
+
+    at : (d : ℕ) → from ≤ d → get_or rest (d - from) 0 ≡ get_or days d 0
+    at d k = get_or-drop from days (d - from) 0 ∙ ap (λ n. get_or days n 0) (add-sub_of_le k)
 
 -- the days from i to before e
 abbrev pub part : {A : Type 0} → (i e : ℕ) → List A → List A
@@ -56,15 +77,15 @@ all_present (d ∷ ds) h = ap₂ (λ x xs. x ∷ xs) (day_present d (h 0 (omega 
 -- the days from i on: a segment, and what stands from its end on
 module _ (days : List ℕ) (i e : ℕ) (s : SegmentEnd days i e) where
   part_length : length (part i e days) ≡ e - i
-  part_length = length-take-le (e - i) (drop i days) (omega (arith, length-drop i days, s.segment.inside))
+  part_length = length-take-le (e - i) (drop i days) (omega (arith, length-drop i days, s.inside))
 
   part_present : map day_of (part i e days) ≡ map some (part i e days)
   part_present =
-      all_present (part i e days) (λ d h m. s.segment.present (i + d) (omega arith) (omega (arith, part_length)) (sym (get_or-take (e - i) (drop i days) d 0 (omega (arith, part_length)) ∙ get_or-drop i days d 0) ∙ m))
+      all_present (part i e days) (λ d h m. s.present (i + d) (omega arith) (omega (arith, part_length)) (sym (get_or-take (e - i) (drop i days) d 0 (omega (arith, part_length)) ∙ get_or-drop i days d 0) ∙ m))
 
   split : map day_of (drop i days) ≡ map some (part i e days) ++ map day_of (drop e days)
   split =
-      let rest : drop (e - i) (drop i days) ≡ drop e days = drop-drop (e - i) i days ∙ ap (λ n. drop n days) (add-sub_of_le s.segment.forward) in
+      let rest : drop (e - i) (drop i days) ≡ drop e days = drop-drop (e - i) i days ∙ ap (λ n. drop n days) (add-sub_of_le s.forward) in
       ap (map day_of) (sym (take-append-drop (e - i) (drop i days))) ∙ map-append day_of (part i e days) (drop (e - i) (drop i days)) ∙ ap₂ (λ a b. a ++ map day_of b) part_present rest
 
   -- a gap, or the list's end
@@ -73,19 +94,6 @@ module _ (days : List ℕ) (i e : ℕ) (s : SegmentEnd days i e) where
 
   before_end : length days ≤ e → map day_of (drop i days) ≡ map some (part i e days)
   before_end h = split ∙ rw (drop_of_length-le days h, append-nil)
-
--- a part of a list, lent and given back as ys, is filled with them
-abbrev pub given_back : (i e : ℕ) → List ℕ → List ℕ → List ℕ
-given_back i e base ys = take i base ++ (ys ++ drop (e - i) (drop i base))
-
-given_back_lem : (i e : ℕ) (base ys : List ℕ) → i ≤ e → e ≤ length base → length ys ≡ e - i → Filled (λ d. get_or ys (d - i) 0) i e base (given_back i e base ys)
-given_back_lem i e base ys h k l =
-    let front = length-take-le i base (omega arith) in
-    record {
-      same_length = length-append (take i base) _ ∙ ap (λ n. length (take i base) + n) (length-append ys _) ∙ omega (arith, front, length-drop (e - i) (drop i base), length-drop i base);
-      filled = λ d n m. let at : d ≡ length (take i base) + (d - i) = omega (arith, front) in ap (λ x. get_or (given_back i e base ys) x 0) at ∙ get_or-append-add (take i base) _ (d - i) 0 ∙ get_or-append ys _ 0 (d - i) (omega arith);
-      kept = λ d n. get_or-append (take i base) _ 0 d (omega (arith, front)) ∙ get_or-take i base d 0 n;
-    }
 
 -- a test that one of several passes, or none
 pub none_passes : {A : Type 0} (test : A → Bool) (x : A) (xs : List A) → Memᴰ x xs → any_of test xs ≡ false → test x ≡ false
@@ -112,7 +120,7 @@ neither false b = refl
 
 module _ (B : Blocks) where
   -- whether a segment has two turning points, segment by segment
-  no_line_gap : (s : List ℕ) (ds : List (Option ℕ)) → no_line B (map some s ++ none ∷ ds) ≡ (not (has_two B s) && no_line B ds)
+  no_line_gap : (s : List ℕ) (ds : List (maybe.Option ℕ)) → no_line B (map some s ++ none ∷ ds) ≡ (not (has_two B s) && no_line B ds)
   unfolding no_line any_of
   no_line_gap s ds = ap (λ ps. not (any_of (has_two B) ps)) (parts_gap s ds) ∙ neither (has_two B s) _
 
@@ -172,7 +180,7 @@ module _ (B : Blocks) where
 
       apart_end : Apart B days e
       apart_end =
-          record { alone = ap (λ n. drop n (line_list B days)) (sym (add-sub_of_le s.segment.forward)) ∙ sym (drop-drop (e - i) i (line_list B days)) ∙ ap (drop (e - i)) (a.alone ∙ split_list) ∙ drop_at drawing _ (e - i) drawing_length }
+          record { alone = ap (λ n. drop n (line_list B days)) (sym (add-sub_of_le s.forward)) ∙ sym (drop-drop (e - i) i (line_list B days)) ∙ ap (drop (e - i)) (a.alone ∙ split_list) ∙ drop_at drawing _ (e - i) drawing_length }
 
       value_gap : e < length days → get_or (line_list B days) e 0 ≡ no_value_mark
       value_gap h = ap (λ n. get_or (line_list B days) n 0) (sym (add-zero e)) ∙ sym (get_or-drop e (line_list B days) 0 0) ∙ ap (λ l. get_or l 0 0) (apart_end.alone ∙ gap_first days e h (s.missing h))
@@ -191,73 +199,91 @@ module _ (B : Blocks) where
   seek_start a = record { onward = omega arith; apart = λ _. a; blank = λ t h k. absurd (omega arith); none_yet = refl }
 
   module _ (days : List ℕ) {from i : ℕ} (k : Seeking days from i) where
-    module _ {e : ℕ} (x : Points) (s : SegmentEnd days i e) (f : FirstTwo B (part i e days) x) (l : i < length days) where
-      found_so : {b : Bool} → ltb 0 x.second.block ≡ b → no_line B (map day_of (drop from days)) ≡ (not b && no_line B (map day_of (drop (e + 1) days)))
-      found_so h = k.none_yet ∙ no_line_here days i e s ∙ ap (λ b. not b && no_line B (map day_of (drop (e + 1) days))) (sym f.two ∙ h)
+    module _ {e : ℕ} (q : e ≡ segment_end days i) (l : i < length days) where
+      s : SegmentEnd days i e
+      s = ended days (omega arith) q
+
+      found_so : {b : Bool} → has_two B (part i e days) ≡ b → no_line B (map day_of (drop from days)) ≡ (not b && no_line B (map day_of (drop (e + 1) days)))
+      found_so h = k.none_yet ∙ no_line_here days i e s ∙ ap (λ b. not b && no_line B (map day_of (drop (e + 1) days))) h
 
       apart : Apart B days i
       apart = k.apart (omega arith)
 
-      pub seek_on : x.second.block ≤ 0 → Seeking days from (e + 1)
-      seek_on h =
-          let none = le-ltb 0 x.second.block h in
-          record { onward = omega (arith, k.onward, s.segment.forward); apart = λ n. apart_next days i e s apart (omega arith); blank = λ t. by_day (sym f.two ∙ none) t (dec_le i t) (dec_le e t); none_yet = found_so none }
+      pub seek_on : has_two B (part i e days) ≡ false → Seeking days from (e + 1)
+      seek_on w =
+          record { onward = omega (arith, k.onward, s.forward); apart = λ n. apart_next days i e s apart (omega arith); blank = λ t. by_day t (dec_le i t) (dec_le e t); none_yet = found_so w }
         where
-          by_day : has_two B (part i e days) ≡ false → (t : ℕ) → Dec (i ≤ t) → Dec (e ≤ t) → from ≤ t → t < e + 1 → t < length days → get_or (line_list B days) t 0 ≡ no_value_mark
-          by_day w t (no a) b g m n = k.blank t g (lt_of_not-le a) n
-          by_day w t (yes a) (no b) g m n = value_in days i e s apart t a (lt_of_not-le b) ∙ no_values B (part i e days) w (t - i) (omega (arith, part_length days i e s, lt_of_not-le b))
-          by_day w t (yes a) (yes b) g m n = let same : t ≡ e = omega arith in ap (λ d. get_or (line_list B days) d 0) same ∙ value_gap days i e s apart (omega arith)
+          by_day : (t : ℕ) → Dec (i ≤ t) → Dec (e ≤ t) → from ≤ t → t < e + 1 → t < length days → get_or (line_list B days) t 0 ≡ no_value_mark
+          by_day t (no a) b g m n = k.blank t g (lt_of_not-le a) n
+          by_day t (yes a) (no b) g m n = value_in days i e s apart t a (lt_of_not-le b) ∙ no_values B (part i e days) w (t - i) (omega (arith, part_length days i e s, lt_of_not-le b))
+          by_day t (yes a) (yes b) g m n = let same : t ≡ e = omega arith in ap (λ d. get_or (line_list B days) d 0) same ∙ value_gap days i e s apart (omega arith)
 
-      pub seek_found : 0 < x.second.block → NextLined B days from (record { from = i; end = e; points = x })
-      seek_found h =
-          record { onward = k.onward; blank = λ t m n. k.blank t m n (omega arith); none = ne_eqb x.second.block 0 (λ z. omega arith) ∙ sym (found_so (lt-ltb 0 x.second.block h)); there = λ _. record { segment = s; apart = apart; points = f }; nowhere = λ z. absurd (omega arith) }
+      pub seek_found : {x : Points} → FirstPoints B (part i e days) x → NextAt B days from (record { from = i; end = e; points = x })
+      seek_found p =
+          record {
+            onward = k.onward;
+            before = record { blank = λ t m n. k.blank t m n (omega arith) };
+            some = found_so (two_found B _ p.first p.second);
+            lined = record { inside = (s.forward, s.inside); end = q; apart = apart; points = p };
+          }
 
-    pub seek_end : (x : Lined) → from ≤ length days → length days ≤ i → x.from ≡ length days → x.points.second.block ≡ 0 → NextLined B days from x
-    seek_end x g h e z =
-        let nothing = ap (λ ds. no_line B (map day_of ds)) (drop_of_length-le days h) ∙ no_line_empty in
-        record { onward = omega arith; blank = λ t m n. k.blank t m (omega arith) (omega arith); none = eq-eqb x.points.second.block 0 z ∙ sym (k.none_yet ∙ nothing); there = λ l. absurd (omega arith); nowhere = λ _. e }
+    pub seek_end : length days ≤ i → Nowhere B days from
+    seek_end h =
+        record {
+          before = record { blank = λ t m n. k.blank t m (omega arith) n };
+          none = k.none_yet ∙ ap (λ ds. no_line B (map day_of ds)) (drop_of_length-le days h) ∙ no_line_empty;
+        }
 
   -- the lines drawn segment by segment: before day t the base list is done, and x is the next segment with a line
-  pub record SoFar (days base₀ base : List ℕ) (t : ℕ) (x : Lined) : Type 0 where
-    pub same_length : length base ≡ length base₀
+  pub record SoFar (days base : List ℕ) (t : ℕ) (x : Option Lined) : Type 0 where
+    pub same_length : length days ≡ length base
+    pub forward : t ≤ length days
     pub so_far : (d : ℕ) → d < t → get_or base d 0 ≡ get_or (line_list B days) d 0
     pub next : NextLined B days t x
 
-  pub start_drawing : {days base : List ℕ} {x : Lined} → NextLined B days 0 x → SoFar days base base 0 x
-  start_drawing n = record { same_length = refl; so_far = λ d h. absurd (omega arith); next = n }
+  pub start_drawing : {days base : List ℕ} {x : Option Lined} → length days ≡ length base → NextLined B days 0 x → SoFar days base 0 x
+  start_drawing l n = record { same_length = l; forward = omega arith; so_far = λ d h. absurd (omega arith); next = n }
 
-  module _ (days : List ℕ) {base₀ base new : List ℕ} {t : ℕ} (x : Lined) (l : length days ≡ length base₀) (f : SoFar days base₀ base t x) (b : Blank t x.from base new) where
-    -- the days before the segment are done
-    done_before : (d : ℕ) → d < x.from → get_or new d 0 ≡ get_or (line_list B days) d 0
-    done_before = further f.so_far b (λ d h k. sym (f.next.blank d h k))
+  pub all_drawn : {days base new : List ℕ} {t : ℕ} → SoFar days base t None → Filled (λ _. no_value_mark) t (length base) base new → new ≡ line_list B days
+  all_drawn {days} {new = new} f b =
+      ext_get_or 0 new (line_list B days) (omega (arith, b.same_length, f.same_length, line_list_length B days))
+      (λ d h. further f.so_far b (λ d h k. sym (f.next.before.blank d h (omega (arith, f.same_length)))) d (omega (arith, b.same_length, f.same_length)))
 
-    pub all_drawn : x.points.second.block ≡ 0 → new ≡ line_list B days
-    all_drawn z =
-        ext_get_or 0 new (line_list B days) (omega (arith, b.same_length, f.same_length, line_list_length B days)) (λ d h. done_before d (omega (arith, b.same_length, f.same_length, f.next.nowhere z)))
+  module _ (days : List ℕ) {base new : List ℕ} {t : ℕ} (x : Lined) (f : SoFar days base t (Some x)) (b : Filled (λ _. no_value_mark) t x.from base new) where
+    at : LinedAt B days x
+    at = f.next.lined
 
-    module _ (h : 0 < x.points.second.block) where
-      at : LinedAt B days x
-      at = f.next.there h
+    seg : SegmentEnd days x.from x.end
+    seg = ended days (omega (arith, at.inside)) at.end
 
-      in_new : x.end ≤ length new
-      in_new = omega (arith, at.segment.segment.inside, b.same_length, f.same_length)
+    -- the segment lies in both lists, and is not empty
+    pub inside : (x.from < x.end) × (x.end ≤ length days) × (x.end ≤ length new)
+    inside = (
+      omega (arith, at.points.first.low.inside, part_length days x.from x.end seg),
+      seg.inside,
+      omega (arith, seg.inside, b.same_length, f.same_length),
+    )
 
-      -- the segment is not empty, and what its line is drawn from
-      pub not_empty : x.from < x.end
-      not_empty =
-          let p = at.points.there h in
-          omega (arith, first_inside B _ _ p.0 p.1, part_length days x.from x.end at.segment)
+    pub lent : length days ≤ day_limit → Room (part x.from x.end days) (part x.from x.end new)
+    lent few =
+        let n = part_length days x.from x.end seg in
+        record { few = omega (arith, n, seg.inside, few); same_length = n ∙ sym (length-take-le (x.end - x.from) (drop x.from new) (omega (arith, length-drop x.from new, inside))) }
 
-      pub lent : length days ≤ day_limit → (length (part x.from x.end days) ≤ day_limit) × (length (part x.from x.end days) ≡ length (part x.from x.end new))
-      lent s =
-          let n = part_length days x.from x.end at.segment in
-          (omega (arith, n, at.segment.segment.inside), n ∙ sym (length-take-le (x.end - x.from) (drop x.from new) (omega (arith, length-drop x.from new, in_new))))
-
-      pub draw_next : {ys : List ℕ} {y : Lined} → ys ≡ map base_mark (line rounded B (part x.from x.end days)) → NextLined B days x.end y → SoFar days base₀ (given_back x.from x.end new ys) x.end y
-      draw_next {ys} d n =
-          let g = given_back_lem x.from x.end new ys at.segment.segment.forward in_new (ap length d ∙ drawing_length days x.from x.end at.segment) in
-          record { same_length = g.same_length ∙ b.same_length ∙ f.same_length; so_far = further done_before g (λ t h k. ap (λ l. get_or l (t - x.from) 0) d ∙ sym (value_in days x.from x.end at.segment at.apart t h k)); next = n }
+    pub draw_next : {ys : List ℕ} {next : Option Lined} → ys ≡ map base_mark (line rounded B (part x.from x.end days)) → NextLined B days x.end next → SoFar days (given_back x.from x.end new ys) x.end next
+    draw_next {ys} d n =
+        let g = given_back_lem x.from x.end new ys seg.forward (inside.2) (ap length d ∙ drawing_length days x.from x.end seg) in
+        record {
+          same_length = omega (arith, g.same_length, b.same_length, f.same_length);
+          forward = seg.inside;
+          so_far = further (further f.so_far b (λ d h k. sym (f.next.before.blank d h k))) g (λ t h k. ap (λ l. get_or l (t - x.from) 0) d ∙ sym (value_in days x.from x.end seg at.apart t h k));
+          next = n;
+        }
 
   -- behind it the days stand apart
   pub apart_behind : (days : List ℕ) {x : Lined} → LinedAt B days x → (x.end ≤ length days) × Apart B days x.end
-  apart_behind days {x} a = (a.segment.segment.inside, apart_end days x.from x.end a.segment a.apart)
+  apart_behind days {x} a = let s = ended days (omega (arith, a.inside)) a.end in (s.inside, apart_end days x.from x.end s a.apart)
+
+-- whether a search from the first day on finds none
+pub none_lined : (B : Blocks) (days : List ℕ) (x : Option Lined) (b : Bool) → NextLined B days 0 x → is_some x ≡ not b → b ≡ no_line B (map day_of days)
+none_lined B days None b n e = sym (not-not b) ∙ ap not (sym e) ∙ sym n.none
+none_lined B days (Some x) b n e = sym (not-not b) ∙ ap not (sym e) ∙ sym n.some

@@ -1,13 +1,13 @@
 -- The minimum of a block: its flow is the lowest, its day the earliest such, and no other day is both.
 -- Assumes nothing.
-use Prim.Native.Nat.{ℕ, zero, suc, ◌+◌, ◌-◌, ◌/◌, ◌≤◌, ◌<◌, min}
+use Prim.Native.Nat.{ℕ, zero, suc, ◌+◌, ◌*◌, ◌-◌, ◌/◌, ◌≤◌, ◌<◌, min}
 use mathlib.Core.Path.{◌≡◌, refl, sym, ◌∙◌, ap}
 use mathlib.Core.Bool.{Bool, true, false, cond}
 use mathlib.Core.List.{List, [], ◌∷◌}
 use native.Mathlib.Nat.{le_refl, min-le_left, min-le_right, min-eq_left, min-eq_right, le_trans, le_of_lt, lt_of_not-le, le-div_iff_mul-le, add-sub_of_le, div-zero, pos_of_ne-zero}
 use native.Mathlib.Decide.{dec_le, ℕ_discrete}
 use native.Mathlib.Omega.{arith}
-use lib.ListN.{length, get_or, drop, length-drop}
+use lib.ListN.{length, get_or, take, drop, length-drop}
 use lib.Seq.{get_or-take, get_or-drop, length-take-le}
 use lib.Dec.{eqb}
 use borrow.Author.Tests.{eqb-true, eqb-false}
@@ -51,14 +51,23 @@ earliest_found y (x ∷ xs) i h s = by_test (eqb x y) refl i h s (λ i. earliest
     by_test false e zero h s rest = absurd (eqb-false x y e s)
     by_test false e (suc i) h s rest = let r = rest i (omega arith) s in (omega (arith, r.0), r.1)
 
--- days with the same lowest flow, each the earliest
-one_minimum : {flows : List ℕ} {a b d e : ℕ} → Minimum flows a b d → Minimum flows a b e → d ≡ e
-one_minimum {flows} {a} {b} {d} {e} m n = by_order (dec_le d e) (dec_le e d)
+-- a search of a list up to before position t: none so far is below that at `low`, and each before `low` is above it
+pub record LowSoFar (ys : List ℕ) (t low : ℕ) : Type 0 where
+  pub inside : low < length ys
+  pub lowest_flow : (k : ℕ) → k < t → get_or ys low 0 ≤ get_or ys k 0
+  pub earliest_day : (k : ℕ) → k < low → get_or ys low 0 < get_or ys k 0
+
+-- at its end, low is the earliest position of the lowest flow
+pub low_found : {ys : List ℕ} {low : ℕ} → LowSoFar ys (length ys) low → low ≡ earliest (lowest ys) ys
+low_found {ys} {low} s =
+    let m = lowest_stands ys (omega (arith, s.inside)) in
+    let e : get_or ys low 0 ≡ lowest ys = omega (arith, s.lowest_flow m.position m.inside, m.equal, lowest_below ys low s.inside) in
+    let f = earliest_found (lowest ys) ys low s.inside e in
+    by_order f (e ∙ sym f.1) (dec_le low (earliest (lowest ys) ys))
   where
-    by_order : Dec (d ≤ e) → Dec (e ≤ d) → d ≡ e
-    by_order (yes h) (yes k) = omega arith
-    by_order (yes h) (no k) = absurd (omega (arith, m.lowest_flow e n.from n.to, n.earliest_day d m.from (lt_of_not-le k)))
-    by_order (no h) k = absurd (omega (arith, n.lowest_flow d m.from m.to, m.earliest_day e n.from (lt_of_not-le h)))
+    by_order : (earliest (lowest ys) ys ≤ low) × (get_or ys (earliest (lowest ys) ys) 0 ≡ lowest ys) → get_or ys low 0 ≡ get_or ys (earliest (lowest ys) ys) 0 → Dec (low ≤ earliest (lowest ys) ys) → low ≡ earliest (lowest ys) ys
+    by_order f e (yes h) = omega (arith, f.0)
+    by_order f e (no h) = absurd (omega (arith, s.earliest_day (earliest (lowest ys) ys) (lt_of_not-le h), e))
 
 -- without a length there are no blocks
 pub no_blocks : (B : Blocks) (flows : List ℕ) → B.days ≡ 0 → block_count B flows ≡ 0
@@ -70,13 +79,13 @@ module _ (B : Blocks) (flows : List ℕ) (k : ℕ) where
   start = block_start B k
 
   -- a block is counted exactly if it is whole
-  pub blocks_positive : k < block_count B flows → 0 < B.days
-  blocks_positive h = elim (ℕ_discrete B.days 0) [ no n ↦ pos_of_ne-zero n | yes e ↦ absurd (omega (arith, no_blocks B flows e)) ]
+  pub block_days : k < block_count B flows → 0 < B.days
+  block_days h = elim (ℕ_discrete B.days 0) [ no n ↦ pos_of_ne-zero n | yes e ↦ absurd (omega (arith, no_blocks B flows e)) ]
 
   pub whole_block : k < block_count B flows → start + B.days ≤ length flows
   unfolding block_start block_count
   whole_block h =
-      let p = blocks_positive h in
+      let p = block_days h in
       omega (arith, (le-div_iff_mul-le {k = B.days} {x = suc k} {y = length flows - B.origin} p).0 h)
 
   pub block_counted : 0 < B.days → start + B.days ≤ length flows → k < block_count B flows
@@ -102,7 +111,7 @@ module _ (B : Blocks) (flows : List ℕ) (k : ℕ) where
     at_inside : (at < B.days) × (get_or days at 0 ≡ minimum_flow B flows k)
     unfolding minimum_flow
     at_inside =
-        let s = lowest_stands days (omega (arith, block_length, blocks_positive counted)) in
+        let s = lowest_stands days (omega (arith, block_length, block_days counted)) in
         let f = earliest_found (lowest days) days s.position s.inside s.equal in
         (omega (arith, f.0, s.inside, block_length), f.1)
 
@@ -144,28 +153,20 @@ module _ (B : Blocks) (flows : List ℕ) (k : ℕ) where
     pub minimum_inside : minimum_day B flows k < length flows
     minimum_inside = omega (arith, block_minimum.to, whole_block counted)
 
-    -- what is found as the minimum of its days
-    pub minimum_found : {a d : ℕ} → a ≡ start → Minimum flows a (a + B.days) d → d ≡ minimum_day B flows k
-    minimum_found e m = one_minimum (rw e at m) block_minimum
+  -- a block as the code takes it: it lies in the segment, is as long as a block, and is not empty
+  abbrev pub first : ℕ
+  first = B.origin + k * B.days
 
--- the search for a minimum, day by day
-module _ (flows : List ℕ) (a : ℕ) where
-  pub first_day : Minimum flows a (a + 1) a
-  first_day =
-      record { from = omega arith; to = omega arith; lowest_flow = λ t h l. let e : t ≡ a = omega arith in rw e (le_refl (flow_on flows a)); earliest_day = λ t h l. absurd (omega arith) }
+  pub block_inside : k < block_count B flows → first + B.days ≤ length flows
+  unfolding block_start
+  block_inside = whole_block
 
-  module _ {b d : ℕ} (m : Minimum flows a b d) where
-    -- the flows up to b, by those before it and b's own
-    up_to : {y : ℕ} → y ≤ flow_on flows d → y ≤ flow_on flows b → (t : ℕ) → a ≤ t → t < b + 1 → y ≤ flow_on flows t
-    up_to {y} g h t k l = by_day (dec_le b t)
-      where
-        by_day : Dec (b ≤ t) → y ≤ flow_on flows t
-        by_day (yes j) = let e : t ≡ b = omega arith in rw e h
-        by_day (no j) = omega (arith, m.lowest_flow t k (lt_of_not-le j))
+  pub block_part : k < block_count B flows → take (first + B.days - first) (drop first flows) ≡ block B flows k
+  unfolding block block_start
+  block_part h = let e : first + B.days - first ≡ B.days = omega arith in ap (λ n. take n (drop first flows)) e
 
-    pub lower_day : flow_on flows b < flow_on flows d → Minimum flows a (b + 1) b
-    lower_day h =
-        record { from = omega (arith, m.from, m.to); to = omega arith; lowest_flow = up_to (omega arith) (omega arith); earliest_day = λ t k l. omega (arith, m.lowest_flow t k l) }
+  pub block_long : k < block_count B flows → length (block B flows k) ≡ B.days
+  block_long h = block_length h
 
-    pub no_lower_day : flow_on flows d ≤ flow_on flows b → Minimum flows a (b + 1) d
-    no_lower_day h = record { from = m.from; to = omega (arith, m.to); lowest_flow = up_to (omega arith) h; earliest_day = m.earliest_day }
+  pub block_some : k < block_count B flows → 0 < length (block B flows k)
+  block_some h = omega (arith, block_length h, block_days h)

@@ -4,9 +4,8 @@ use Prim.Native.Nat.{ℕ, zero, suc, ◌+◌, ◌*◌, ◌-◌, ◌≤◌, ◌<�
 use mathlib.Core.Path.{◌≡◌, refl, sym, ◌∙◌, ap}
 use mathlib.Core.Bool.{Bool, true, false}
 use mathlib.Core.List.{List, [], ◌∷◌, map}
-use native.Mathlib.Nat.{mul-le-mul_right, sub-zero, div-le_self, lt_of_not-le}
+use native.Mathlib.Nat.{mul-le-mul_right, sub-zero, div-le_self}
 use native.Mathlib.Numerals.{add-one}
-use native.Mathlib.Decide.{dec_le}
 use native.Mathlib.Omega.{arith}
 use lib.ListN.{length}
 use lib.Dec.{ltb}
@@ -15,10 +14,10 @@ use Rattle.numbers.specs.Lists.{selected}
 use Rattle.numbers.proofs.Selection.{selected_none, selected_pass, selected_fail}
 use Rattle.minima.specs.declared.block.Blocks.{Blocks}
 use Rattle.minima.specs.declared.block.Turning.{Turning}
-use Rattle.minima.specs.Blocks.{flow_on, block_start, block_count, minimum_flow, minimum_day, Minimum}
+use Rattle.minima.specs.Blocks.{flow_on, block_start, block_count, minimum_flow, minimum_day}
 use Rattle.minima.specs.TurningPoints.{turns, middle_turns, counting, turning_points}
-use Rattle.minima.specs.Private.{points_from, Low, FirstTurning, Found}
-use Rattle.minima.proofs.Minima.{blocks_positive, whole_block, block_counted, minimum_flow_lem, block_minimum, minimum_found}
+use Rattle.minima.specs.Private.{points_from, Low, FirstTurning}
+use Rattle.minima.proofs.Minima.{minimum_flow_lem, block_minimum}
 
 -- a list of days, each later than the one before it, the first later than a
 abbrev pub Rising : ℕ → List ℕ → Type 0
@@ -49,12 +48,12 @@ module _ (B : Blocks) (flows : List ℕ) where
   flow_at : (j : ℕ) {d : ℕ} → j < block_count B flows → d ≡ minimum_day B flows j → flow_on flows d ≡ minimum_flow B flows j
   flow_at j c e = ap (flow_on flows) e ∙ minimum_flow_lem B flows j c
 
-  tested : (k : ℕ) {l m r : ℕ} {t : Bool} → k + 2 < block_count B flows → Low B flows l k m → r ≡ minimum_day B flows (k + 2)
-      → t ≡ turns B.factor (flow_on flows l) (flow_on flows m) (flow_on flows r) → t ≡ middle_turns B flows k
+  tested : {x : Turning} {r : ℕ} {t : Bool} → x.block + 2 < block_count B flows → Low B flows x → r ≡ minimum_day B flows (x.block + 2)
+      → t ≡ turns B.factor (flow_on flows x.day) (flow_on flows x.after) (flow_on flows r) → t ≡ middle_turns B flows x.block
   unfolding middle_turns
-  tested k c low e h =
-      let two : k + 2 ≡ suc (suc k) = omega arith in
-      h ∙ rw (flow_at k (omega arith) low.day, flow_at (k + 1) (omega arith) low.after, flow_at (k + 2) c e, add-one, two)
+  tested {x} c low e h =
+      let two : x.block + 2 ≡ suc (suc x.block) = omega arith in
+      h ∙ rw (flow_at x.block (omega arith) low.day, flow_at (x.block + 1) (omega arith) low.after, flow_at (x.block + 2) c e, add-one, two)
 
   abbrev triples : ℕ
   triples = block_count B flows - 2
@@ -94,77 +93,41 @@ module _ (B : Blocks) (flows : List ℕ) where
   unfolding points_from turning_points
   all_points = ap (λ n. points_of (counting 0 n)) (sub-zero triples)
 
-  -- a search that has passed the triples from block `from` to before block k, with the minima of blocks k and k + 1 and
-  -- the first day of the third
-  pub record Searched (from k l m start : ℕ) : Type 0 where
-    pub onward : from ≤ k
-    pub left : points_from B flows from ≡ points_from B flows k
-    pub low : Low B flows l k m
-    pub third : start ≡ block_start B (k + 2)
+  -- a search that has passed the triples from block `from` to before block x.block: block k is the third of the next triple
+  pub record Searched (from : ℕ) (x : Turning) (k : ℕ) : Type 0 where
+    pub onward : from ≤ x.block
+    pub passed : points_from B flows from ≡ points_from B flows x.block
+    pub low : Low B flows x
+    pub third : k ≡ x.block + 2
 
-  pub search_start : {from l m : ℕ} → Low B flows l from m → Searched from from l m (B.origin + (from + 2) * B.days)
-  unfolding block_start
-  search_start low = record { onward = omega arith; left = refl; low = low; third = refl }
+  pub search_start : {x : Turning} → Low B flows x → Searched x.block x (x.block + 2)
+  search_start low = record { onward = omega arith; passed = refl; low = low; third = refl }
 
-  -- the third block begins in the segment or at its end
-  pub low_third : (k : ℕ) {l m : ℕ} → Low B flows l k m → B.origin + (k + 2) * B.days ≤ length flows
-  unfolding block_start
-  low_third k low = omega (arith, whole_block B flows (k + 1) low.counted)
-
-  module _ {from k l m start : ℕ} (s : Searched from k l m start) where
-    pub third_inside : (start ≤ length flows) × (k < length flows) × (0 < B.days)
-    unfolding block_start
-    third_inside = (omega (arith, s.third, low_third k s.low), omega (arith, s.low.counted, count_fits), blocks_positive B flows (k + 1) s.low.counted)
-
-    pub search_end : length flows - start < B.days → points_from B flows from ≡ []
+  module _ {from k : ℕ} {x : Turning} (s : Searched from x k) where
+    pub search_end : block_count B flows ≤ k → points_from B flows from ≡ []
     unfolding points_from
-    search_end h =
-        elim (dec_le (block_count B flows) (k + 2)) [
-          | yes c ↦ s.left ∙ no_points k (triples - k) (omega arith)
-          | no c ↦ absurd (omega (arith, s.third, whole_block B flows (k + 2) (lt_of_not-le c)))
-        ]
+    search_end h = s.passed ∙ no_points x.block (triples - x.block) (omega (arith, s.third))
 
-    module _ {r : ℕ} {t : Bool} (h : B.days ≤ length flows - start) (q : Minimum flows start (start + B.days) r) (f : t ≡ turns B.factor (flow_on flows l) (flow_on flows m) (flow_on flows r)) where
-      counted : k + 2 < block_count B flows
-      counted = let i = third_inside in block_counted B flows (k + 2) i.2 (omega (arith, s.third, i.0))
+    module _ {r : ℕ} {t : Bool} (h : k < block_count B flows) (e : r ≡ minimum_day B flows k) (i : r < length flows) (f : t ≡ turns B.factor (flow_on flows x.day) (flow_on flows x.after) (flow_on flows r)) where
+      abbrev middle : Turning
+      middle = record { day = x.after; block = x.block + 1; after = r }
 
-      third_day : r ≡ minimum_day B flows (k + 2)
-      third_day = minimum_found B flows (k + 2) counted s.third q
+      next_low : Low B flows middle
+      next_low = let next : k ≡ x.block + 1 + 1 = omega (arith, s.third) in record { day = s.low.after; after = e ∙ ap (minimum_day B flows) next; counted = omega (arith, s.third); inside = (s.low.inside.1, i) }
 
-      next_low : Low B flows m (k + 1) r
-      next_low = let two : k + 2 ≡ k + 1 + 1 = omega arith in record { day = s.low.after; after = third_day ∙ ap (minimum_day B flows) two; counted = omega (arith, counted) }
+      turns_so : t ≡ middle_turns B flows x.block
+      turns_so = tested (omega (arith, s.third)) s.low (e ∙ ap (minimum_day B flows) s.third) f
 
-      turns_so : t ≡ middle_turns B flows k
-      turns_so = tested k counted s.low third_day f
+      pub search_found : t ≡ true → FirstTurning B flows from middle
+      search_found y = record { points = s.passed ∙ turn_found x.block (omega (arith, s.third)) (sym turns_so ∙ y) ∙ rw (s.low.after, add-one); low = next_low; later = omega (arith, s.onward) }
 
-      pub search_found : t ≡ true → FirstTurning B flows from m (k + 1) r
-      search_found y =
-          record { points = s.left ∙ turn_found k (omega (arith, counted)) (sym turns_so ∙ y) ∙ rw (s.low.after, add-one); low = next_low; later = omega (arith, s.onward) }
+      pub search_on : t ≡ false → Searched from middle (k + 1)
+      search_on y = record { onward = omega (arith, s.onward); passed = s.passed ∙ turn_passed x.block (omega (arith, s.third)) (sym turns_so ∙ y) ∙ rw (add-one); low = next_low; third = omega (arith, s.third) }
 
-      pub search_on : t ≡ false → Searched from (k + 1) m r (start + B.days)
-      unfolding block_start
-      search_on y =
-          record { onward = omega (arith, s.onward); left = s.left ∙ turn_passed k (omega (arith, counted)) (sym turns_so ∙ y) ∙ rw (add-one); low = next_low; third = omega (arith, s.third) }
-
-  -- what a search answers
-  pub found : {from : ℕ} (x : Turning) → FirstTurning B flows from x.day x.block x.after → Found B flows from x
-  found x f = record { there = λ _. f; nowhere = λ e. absurd (omega (arith, f.later)) }
-
-  pub not_found : {from : ℕ} (x : Turning) → x.block ≡ 0 → points_from B flows from ≡ [] → Found B flows from x
-  not_found x e f = record { there = λ h. absurd (omega arith); nowhere = λ _. f }
-
-  -- without three blocks there is none; of three, the minima of the first two
+  -- without three blocks there is no turning point
   pub no_triples : block_count B flows < 3 → points_from B flows 0 ≡ []
   unfolding points_from
   no_triples h = no_points 0 (triples - 0) (omega arith)
-
-  pub three_blocks : 3 ≤ block_count B flows → (B.origin + B.days + B.days ≤ length flows) × (0 < B.days)
-  unfolding block_start
-  three_blocks h = (omega (arith, whole_block B flows 1 (omega arith)), blocks_positive B flows 0 (omega arith))
-
-  pub first_low : {d a : ℕ} → 3 ≤ block_count B flows → Minimum flows B.origin (B.origin + B.days) d → Minimum flows (B.origin + B.days) (B.origin + B.days + B.days) a → Low B flows d 0 a
-  unfolding block_start
-  first_low h m n = record { day = minimum_found B flows 0 (omega arith) (omega arith) m; after = minimum_found B flows 1 (omega arith) (omega arith) n; counted = omega arith }
 
   -- the days of minima rise from block to block
   pub days_rise : (j k : ℕ) → j < k → k < block_count B flows → minimum_day B flows j < minimum_day B flows k

@@ -1,6 +1,6 @@
 -- The value of a day by any two neighbouring turning points around it.
 -- Assumes nothing.
-use Prim.Native.Nat.{ℕ, ◌+◌, ◌*◌, ◌-◌, ◌≤◌, ◌<◌}
+use Prim.Native.Nat.{ℕ, ◌*◌, ◌≤◌, ◌<◌}
 use mathlib.Core.Path.{◌≡◌, refl, sym, ◌∙◌, ap}
 use mathlib.Core.List.Memᴰ
 use mathlib.Core.List.{List, [], ◌∷◌, Memᴰ}
@@ -13,26 +13,11 @@ use Rattle.numbers.specs.Arithmetic.{Arithmetic}
 use Rattle.numbers.proofs.Quantities.{Keeps}
 use Rattle.minima.specs.Blocks.{flow_on}
 use Rattle.minima.specs.TurningPoints.{neighbours}
-use Rattle.minima.specs.Line.{straight, between, line_on}
-use Rattle.minima.proofs.Pieces.{value_within, value_before, value_behind}
+use Rattle.minima.specs.Line.{between, line_on}
+use Rattle.minima.proofs.Pieces.{value_left, value_right, value_within, value_before, value_behind}
 use Rattle.minima.proofs.Neighbours.{Rises, Adjacent, neighbours_adjacent, members_rise}
 
 module _ (S : Arithmetic) (keeps : Keeps S) (flows : List ℕ) where
-  -- on a turning point itself the value is the flow, by the piece that ends there and by the piece that begins there
-  value_right : (i j : ℕ) → i < j → between S flows i j j ≡ S.number (1000 * flow_on flows j)
-  unfolding between straight
-  value_right i j h =
-      let z : j - j ≡ 0 = omega arith in
-      let e : 1000 * (flow_on flows i * (j - j) + flow_on flows j * (j - i)) ≡ 1000 * flow_on flows j * (j - i) = omega (arith, ap (λ n. flow_on flows i * n) z) in
-      ap (λ n. S.least (S.number (1000 * flow_on flows j)) (S.quotient (S.number n) (j - i))) e ∙ keeps (1000 * flow_on flows j) (j - i) (omega arith)
-
-  value_left : (i j : ℕ) → i < j → between S flows i j i ≡ S.number (1000 * flow_on flows i)
-  unfolding between straight
-  value_left i j h =
-      let z : i - i ≡ 0 = omega arith in
-      let e : 1000 * (flow_on flows i * (j - i) + flow_on flows j * (i - i)) ≡ 1000 * flow_on flows i * (j - i) = omega (arith, ap (λ n. flow_on flows j * n) z) in
-      ap (λ n. S.least (S.number (1000 * flow_on flows i)) (S.quotient (S.number n) (j - i))) e ∙ keeps (1000 * flow_on flows i) (j - i) (omega arith)
-
   -- a later pair gives it, and an earlier pair that ends where the later one begins gives the same
   earlier_pair : (a b i j t : ℕ) (pairs : List (ℕ × ℕ)) → a < b → b ≤ i → i < j → i ≤ t → line_on S flows pairs t ≡ some (between S flows i j t) → line_on S flows ((a, b) ∷ pairs) t ≡ some (between S flows i j t)
   earlier_pair a b i j t pairs p q r h v = by_day (dec_le t b)
@@ -43,7 +28,7 @@ module _ (S : Arithmetic) (keeps : Keeps S) (flows : List ℕ) where
           let e : t ≡ b = omega arith in
           let f : t ≡ i = omega arith in
           value_within S flows a b pairs t (omega arith) l
-          ∙ ap some (ap (between S flows a b) e ∙ value_right a b p ∙ ap (λ n. S.number (1000 * flow_on flows n)) (sym e ∙ f) ∙ sym (value_left i j r) ∙ ap (between S flows i j) (sym f))
+          ∙ ap some (ap (between S flows a b) e ∙ value_right S keeps flows a b p ∙ ap (λ n. S.number (1000 * flow_on flows n)) (sym e ∙ f) ∙ sym (value_left S keeps flows i j r) ∙ ap (between S flows i j) (sym f))
 
   -- any pair of neighbours around a day gives its value
   pub by_any : (ps : List ℕ) (i j t : ℕ) → Rises ps → Memᴰ (i, j) (neighbours ps) → i ≤ t → t ≤ j → line_on S flows (neighbours ps) t ≡ some (between S flows i j t)

@@ -1,12 +1,13 @@
 -- What the private functions promise of the turning points that they have in hand. No public promise speaks of these.
-use Rattle.std.specs.Prelude.{ℕ, suc, ◌+◌, ◌-◌, ◌≤◌, ◌<◌, ◌≡◌, List, [], ◌∷◌, map, length, get_or, take, drop, ltb, eqb}
+use Rattle.std.specs.Prelude.{ℕ, suc, ◌+◌, ◌-◌, ◌≤◌, ◌<◌, ◌≡◌, List, [], ◌∷◌, map, length, get_or, take, drop, true, false, ◌==◌, Option, MatchOption}
+use Rattle.std.specs.List.{position_or_len}
 use Rattle.numbers.specs.Lists.{selected}
 use Rattle.numbers.specs.Arithmetic.{rounded}
 use Rattle.series.specs.Units.{day_limit, missing_mark, no_value_mark, day_of}
 use Rattle.minima.specs.declared.block.Blocks.{Blocks}
 use Rattle.minima.specs.declared.block.Turning.{Turning}
-use Rattle.minima.specs.declared.segment.Points.{Points}
-use Rattle.minima.specs.declared.segment.Lined.{Lined}
+use Rattle.minima.specs.declared.block.Points.{Points}
+use Rattle.minima.specs.declared.river.Lined.{Lined}
 use Rattle.minima.specs.Blocks.{block_count, minimum_day}
 use Rattle.minima.specs.TurningPoints.{middle_turns, counting}
 use Rattle.minima.specs.Line.{between}
@@ -17,27 +18,31 @@ unfoldable pub points_from : Blocks → List ℕ → (k : ℕ) → List ℕ
 points_from B flows k =
     map (λ k. minimum_day B flows (suc k)) (selected (middle_turns B flows) (counting k (block_count B flows - 2 - k)))
 
--- the minimum of block k lies on day d, and that of the block after it on day a
-pub record Low (B : Blocks) (flows : List ℕ) (d k a : ℕ) : Type 0 where
-  pub day : d ≡ minimum_day B flows k
-  pub after : a ≡ minimum_day B flows (k + 1)
-  pub counted : k + 1 < block_count B flows
+-- on x's day lies the minimum of its block, and on day x.after that of the next
+pub record Low (B : Blocks) (flows : List ℕ) (x : Turning) : Type 0 where
+  pub day : x.day ≡ minimum_day B flows x.block
+  pub after : x.after ≡ minimum_day B flows (x.block + 1)
+  pub counted : x.block + 1 < block_count B flows
+  pub inside : (x.day < length flows) × (x.after < length flows)
 
--- of the turning points from block `from` on, the first is at d, in block k
-pub record FirstTurning (B : Blocks) (flows : List ℕ) (from d k a : ℕ) : Type 0 where
-  pub points : points_from B flows from ≡ d ∷ points_from B flows k
-  pub low : Low B flows d k a
-  pub later : from < k
+-- of the turning points from block `from` on, x is the first
+pub record FirstTurning (B : Blocks) (flows : List ℕ) (from : ℕ) (x : Turning) : Type 0 where
+  pub points : points_from B flows from ≡ x.day ∷ points_from B flows x.block
+  pub low : Low B flows x
+  pub later : from < x.block
 
--- what a search from block `from` on answers: that one, or block 0 where there is none
-pub record Found (B : Blocks) (flows : List ℕ) (from : ℕ) (x : Turning) : Type 0 where
-  pub there : 0 < x.block → FirstTurning B flows from x.day x.block x.after
-  pub nowhere : x.block ≡ 0 → points_from B flows from ≡ []
+-- what a search from block `from` on answers: that one, where there is one
+abbrev pub Found : Blocks → List ℕ → (from : ℕ) → Option Turning → Type 0
+Found B flows from x = MatchOption x (points_from B flows from ≡ []) (FirstTurning B flows from)
 
--- the first two turning points of a segment; block 0 for the second says that there are not two
-pub record FirstTwo (B : Blocks) (flows : List ℕ) (x : Points) : Type 0 where
-  pub there : 0 < x.second.block → Found B flows 0 x.first × (0 < x.first.block) × Found B flows x.first.block x.second
-  pub two : ltb 0 x.second.block ≡ has_two B flows
+-- the first two turning points of a segment ..
+pub record FirstPoints (B : Blocks) (flows : List ℕ) (x : Points) : Type 0 where
+  pub first : FirstTurning B flows 0 x.first
+  pub second : FirstTurning B flows x.first.block x.second
+
+-- .. where there are two
+abbrev pub FirstTwo : Blocks → List ℕ → Option Points → Type 0
+FirstTwo B flows x = MatchOption x (has_two B flows ≡ false) (FirstPoints B flows)
 
 -- a piece from i to j in a segment that is not too long
 pub record Span (flows : List ℕ) (i j : ℕ) : Type 0 where
@@ -51,23 +56,18 @@ pub record Filled (rule : ℕ → ℕ) (a b : ℕ) (base₀ base : List ℕ) : T
   pub filled : (d : ℕ) → a ≤ d → d < b → get_or base d 0 ≡ rule d
   pub kept : (d : ℕ) → d < a → get_or base d 0 ≡ get_or base₀ d 0
 
--- filled by the line from i to j up to its end, or with no value
-abbrev pub FilledTo : List ℕ → (i j a : ℕ) → (base₀ base : List ℕ) → Type 0
-FilledTo flows i j a base₀ base = Filled (between rounded flows i j) a (j + 1) base₀ base
+-- filled by the line from i to j behind day i, up to day j
+abbrev pub FilledTo : List ℕ → (i j : ℕ) → (base₀ base : List ℕ) → Type 0
+FilledTo flows i j base₀ base = Filled (between rounded flows i j) (i + 1) (j + 1) base₀ base
 
-abbrev pub Blank : (a b : ℕ) → (base₀ base : List ℕ) → Type 0
-Blank a b base₀ base = Filled (λ _. no_value_mark) a b base₀ base
+-- a base list with a value for each day of a list that is not too long
+pub record Room (days base : List ℕ) : Type 0 where
+  pub few : length days ≤ day_limit
+  pub same_length : length days ≡ length base
 
--- the days from `from` to before e are present ..
-pub record Present (days : List ℕ) (from e : ℕ) : Type 0 where
-  pub forward : from ≤ e
-  pub inside : e ≤ length days
-  pub present : (d : ℕ) → from ≤ d → d < e → get_or days d 0 ≡ missing_mark → ⊥
-
--- .. and e is missing or the list's end
-pub record SegmentEnd (days : List ℕ) (from e : ℕ) : Type 0 where
-  pub segment : Present days from e
-  pub missing : e < length days → get_or days e 0 ≡ missing_mark
+-- the first missing day from day `from` on, or the list's end
+abbrev pub segment_end : (days : List ℕ) (from : ℕ) → ℕ
+segment_end days from = from + position_or_len (λ day. day == missing_mark) (drop from days)
 
 -- the days from day i on have their lines by themselves: no segment goes on over day i
 pub record Apart (B : Blocks) (days : List ℕ) (i : ℕ) : Type 0 where
@@ -75,15 +75,27 @@ pub record Apart (B : Blocks) (days : List ℕ) (i : ℕ) : Type 0 where
 
 -- a segment from `from` to before `end`, and its first two turning points
 pub record LinedAt (B : Blocks) (days : List ℕ) (x : Lined) : Type 0 where
-  pub segment : SegmentEnd days x.from x.end
+  pub inside : (x.from ≤ x.end) × (x.end ≤ length days)
+  pub end : x.end ≡ segment_end days x.from
   pub apart : Apart B days x.from
-  pub points : FirstTwo B (take (x.end - x.from) (drop x.from days)) x.points
+  pub points : FirstPoints B (take (x.end - x.from) (drop x.from days)) x.points
 
--- what a search from day `from` on answers: the next segment with a line, before which no day has a value, or the list's
--- end with block 0 for a second turning point
-pub record NextLined (B : Blocks) (days : List ℕ) (from : ℕ) (x : Lined) : Type 0 where
+-- no day from day `from` to before day i has a value
+pub record Unlined (B : Blocks) (days : List ℕ) (from i : ℕ) : Type 0 where
+  pub blank : (t : ℕ) → from ≤ t → t < i → get_or (line_list B days) t 0 ≡ no_value_mark
+
+-- the next segment with a line, from day `from` on, before which no day has a value ..
+pub record NextAt (B : Blocks) (days : List ℕ) (from : ℕ) (x : Lined) : Type 0 where
   pub onward : from ≤ x.from
-  pub blank : (t : ℕ) → from ≤ t → t < x.from → get_or (line_list B days) t 0 ≡ no_value_mark
-  pub none : eqb x.points.second.block 0 ≡ no_line B (map day_of (drop from days))
-  pub there : 0 < x.points.second.block → LinedAt B days x
-  pub nowhere : x.points.second.block ≡ 0 → x.from ≡ length days
+  pub before : Unlined B days from x.from
+  pub some : no_line B (map day_of (drop from days)) ≡ false
+  pub lined : LinedAt B days x
+
+-- .. or no day has
+pub record Nowhere (B : Blocks) (days : List ℕ) (from : ℕ) : Type 0 where
+  pub before : Unlined B days from (length days)
+  pub none : no_line B (map day_of (drop from days)) ≡ true
+
+-- what a search from day `from` on answers: that one, where there is one
+abbrev pub NextLined : Blocks → (days : List ℕ) → (from : ℕ) → Option Lined → Type 0
+NextLined B days from x = MatchOption x (Nowhere B days from) (NextAt B days from)

@@ -1,45 +1,61 @@
 // Pieces of the line of one segment: from one turning point to the next.
-ghost use Rattle.std.specs.Prelude.{◌≡◌, ◌≤◌, length};
+ghost use Rattle.std.specs.Prelude.{◌≡◌, ◌≤◌, ◌<◌, length};
 ghost use Rattle.numbers.specs.Arithmetic.{rounded};
 ghost use Rattle.minima.specs.Blocks.{flow_on};
 ghost use Rattle.minima.specs.Line.{between};
-ghost use Rattle.minima.specs.Private.{Span, FilledTo, Blank};
+ghost use Rattle.minima.specs.Private.{Span, FilledTo};
 
-// The straight line from turning point to turning point, whose flows are `first` and `last`, and at most the flow.
-fn between(days: &[u32], first: u32, last: u32, left: usize, right: usize, t: usize) -> u64
-    requires left_le_t { (left ≤ t) × (t ≤ right) × Span days.now left right }
-    requires first_value { (first ≡ flow_on days.now left) × (last ≡ flow_on days.now right) }
-    ensures { result ≡ between rounded days.now left right t }
-{
-    let from_left = (first as u64) * ((right - t) as u64);
-    let from_right = (last as u64) * ((t - left) as u64);
-    let straight = numbers::near_small(1000 * (from_left + from_right), (right - left) as u64);
-    let top = 1000 * (days[t] as u64);
-    if top < straight { top } else { straight }
+// The piece from the turning point on day `left` to the next, on day `right`, and the flows of these two days.
+#[derive(Clone, Copy)]
+pub(crate) struct Piece<'a> {
+    flows: &'a [u32],
+    left: usize,
+    right: usize,
+    first: u32,
+    last: u32,
+    ghost span: { Span flows.now left right },
+    ghost first_is: { first ≡ flow_on flows.now left },
+    ghost last_is: { last ≡ flow_on flows.now right },
 }
 
-// The days from day `from` of a piece to its end.
-pub(crate) fn fill(days: &[u32], base: &mut [u64], left: usize, right: usize, from: usize)
-    requires { (left ≤ from) × Span days.now left right × (length days.now ≡ length base.old) }
-    ensures { FilledTo days.now left right from base.old base.new }
-{
-    let first = days[left];
-    let last = days[right];
-    let mut t = from;
-    while t <= right {
-        base[t] = between(days, first, last, left, right, t);
-        t += 1;
+impl<'a> Piece<'a> {
+    pub(crate) fn new(flows: &'a [u32], left: usize, right: usize) -> Self
+        requires { Span flows.now left right }
+        ensures flows_kept { result.flows.now ≡ flows.now }
+        ensures days_kept { (result.left ≡ left) × (result.right ≡ right) }
+    {
+        Piece {
+            flows,
+            left,
+            right,
+            first: flows[left],
+            last: flows[right],
+        }
     }
-}
 
-// The days from day `from` to before day `end`, which no piece has.
-pub(crate) fn blank(base: &mut [u64], from: usize, end: usize)
-    requires { end ≤ length base.old }
-    ensures { Blank from end base.old base.new }
-{
-    let mut t = from;
-    while t < end {
-        base[t] = series::NO_VALUE;
-        t += 1;
+    // The straight line between the two flows, and at most the flow.
+    // Kept: `as u64`, since std has no From from usize, and TryFrom would add an error that never comes.
+    fn value(&self, t: usize) -> u64
+        requires { (self.now.left ≤ t) × (t ≤ self.now.right) }
+        ensures { result ≡ between rounded self.now.flows.now self.now.left self.now.right t }
+    {
+        let from_left = u64::from(self.first) * ((self.right - t) as u64);
+        let from_right = u64::from(self.last) * ((t - self.left) as u64);
+        let straight = numbers::near_small(
+            1000 * (from_left + from_right),
+            (self.right - self.left) as u64,
+        );
+        let top = 1000 * u64::from(self.flows[t]);
+        top.min(straight)
+    }
+
+    // The days behind the left turning point, up to the right one.
+    pub(crate) fn fill(&self, base: &mut [u64])
+        requires { length self.now.flows.now ≡ length base.old }
+        ensures { FilledTo self.now.flows.now self.now.left self.now.right base.old base.new }
+    {
+        for t in self.left + 1..self.right + 1 {
+            base[t] = self.value(t);
+        }
     }
 }

@@ -1,9 +1,8 @@
-// Rounding to the nearest whole number, document 01's near; the smaller and the larger of two lengths; the parts of a number of either sign.
+// Rounding to the nearest whole number, document 01's near.
 #![tactic(auto)]
 
-ghost use Rattle.std.specs.Prelude.{◌≡◌, ℕ, ◌+◌, ◌-◌, ◌/◌, ◌≤◌, ◌<◌, min, max};
+ghost use Rattle.std.specs.Prelude.{◌≡◌, ℕ, ◌+◌, ◌-◌, ◌/◌, ◌≤◌, ◌<◌};
 ghost use Rattle.numbers.specs.Near.{near};
-ghost use Rattle.numbers.specs.Whole.{up, down};
 
 // near(a / b), for any a and b. As near's definition has it, a quotient by zero is 0.
 pub fn near(a: u64, b: u64) -> u64
@@ -26,8 +25,9 @@ pub fn near_halved(h: u64, b: u64) -> u64
 {
     let whole = h / b;
     if h % b < whole % 2 {
+        // Kept: `as`, since 32 bits make the shorter division, and TryFrom would add an error that never comes.
         let last_bits = (whole % 4) as u32;
-        whole - (last_bits % ((2 - b % 2) as u32)) as u64
+        whole - u64::from(last_bits % ((2 - b % 2) as u32))
     } else {
         whole
     }
@@ -46,44 +46,5 @@ pub fn balance(last: u64, first: u64, loss: u64) -> u64
     requires { last + first ≤ 18446744073709551615 }
     ensures { result ≡ last + first - loss }
 {
-    if loss <= first {
-        return last + (first - loss);
-    }
-    let more = loss - first;
-    if last < more { 0 } else { last - more }
-}
-
-pub fn least(a: usize, b: usize) -> usize
-    ensures { result ≡ min a b }
-{
-    if a < b { a } else { b }
-}
-
-pub fn most(a: usize, b: usize) -> usize
-    ensures { result ≡ max a b }
-{
-    if a < b { b } else { a }
-}
-
-// The part of a number above zero, and the part below zero: no other function computes with a sign.
-pub fn above_zero(s: i32) -> u64
-    ensures { result ≡ up s }
-{
-    if 0 < s { s as u64 } else { 0 }
-}
-
-pub fn below_zero(s: i32) -> u64
-    ensures { result ≡ down s }
-{
-    if s < 0 { (-(s as i64)) as u64 } else { 0 }
-}
-
-// Both parts together: the size of a number, without its sign.
-pub fn magnitude(s: i32) -> u64
-    ensures { result ≡ up s + down s }
-{
-    if s < 0 {
-        return below_zero(s);
-    }
-    above_zero(s)
+    (last + first).saturating_sub(loss)
 }

@@ -1,22 +1,22 @@
 -- The days as limbs see them, and two neighbouring ones.
 -- Assumes nothing.
-use Prim.Native.Nat.{ℕ, zero, suc, ◌*◌, ◌≤◌, ◌<◌, ◌^◌}
-use mathlib.Core.Path.{◌≡◌, refl, sym, ◌∙◌, ap, ap₂}
-use mathlib.Core.Bool.{Bool, true, false, cond}
+use Prim.Native.Nat.{ℕ, zero, suc, ◌*◌, ◌≤◌, ◌<◌}
+use mathlib.Core.Path.{◌≡◌, refl, sym, ◌∙◌, ap}
+use mathlib.Core.Bool.{Bool, true, false, cond, true≢false}
 use mathlib.Core.List.{List, [], ◌∷◌}
+use mathlib.Core.Logic.{◌⊎◌, inl, inr}
 use mathlib.Core.Option.{Option, none, some, none-ne-some, some-injective}
 use native.Mathlib.Decide.{ℕ_discrete}
 use native.Mathlib.Omega.{arith}
-use borrow.Author.Tests.{le-ltb, eqb-true, eq-eqb, ne_eqb}
-use lib.Dec.{eqb, ltb}
+use borrow.Author.Tests.{eqb-true, eq-eqb, ne_eqb}
+use lib.Dec.{eqb}
 use lib.ListN.{length, get_or, drop}
+use Rattle.std.proofs.lemmas.Bool.{true_from_ne_false}
 use Rattle.series.specs.Units.{day_of, base_of, missing_mark, no_value_mark}
 use Rattle.series.specs.Lists.{is_invalid_base}
-use Rattle.series.specs.Runs.{joined}
 use Rattle.series.proofs.Views.{day_missing, day_present, day_flow, base_none, base_value}
 use Rattle.series.proofs.Tests.{none_on_missing, valid_base}
-use Rattle.series.proofs.Runs.{joined_none, joined_after_gap, joined_days}
-use Rattle.recession.specs.Limbs.{at_base, limb_day, limb_days, falls}
+use Rattle.recession.specs.Limbs.{at_base, limb_day, limb_days}
 
 -- A day is at base exactly if it is present and its base value is 1000 × its flow; and then limbs see its own flow.
 pub seen_at_base : (day base : Option ℕ) {y : ℕ} → at_base day base ≡ some y → (day ≡ some y) × (base ≡ some (1000 * y))
@@ -45,31 +45,27 @@ pub limb_valid : (d b : ℕ) {y : ℕ} → limb_day d b ≡ some y → is_invali
 unfolding limb_day
 limb_valid d b {y} e = let s = seen_at_base (day_of d) (base_of b) e in rw (s.0, s.1) (valid_base y (1000 * y) (omega arith))
 
--- by the one test of the code: neither mark is 1000 × a flow
-pub seen_by_test : (d b : ℕ) → b ≡ 1000 * d → d < 2 ^ 32 → day_of d ≡ limb_day d b
+-- by the tests of the code: the mark of no value is not 1000 × a flow
+pub seen_by_test : (d b : ℕ) → b ≡ 1000 * d → (d ≡ missing_mark → ⊥) → limb_day d b ≡ some d
 unfolding limb_day at_base
-seen_by_test d b e fits = go (ℕ_discrete d missing_mark)
-  where
-    go : Dec (d ≡ missing_mark) → day_of d ≡ limb_day d b
-    go (yes m) = rw (day_missing d m)
-    go (no m) = rw (day_present d m, base_value b (λ n. omega (arith, n)), e) (sym (at_base_seen d))
+seen_by_test d b e m = rw (day_present d m, base_value b (λ n. omega (arith, n)), e) (at_base_seen d)
 
--- a missing day that passes it has a base value, and is invalid
-pub invalid_by_test : (d b : ℕ) → b ≡ 1000 * d → d ≡ missing_mark → is_invalid_base (day_of d) (base_of b) ≡ true
-invalid_by_test d b e m = rw (day_missing d m, base_value b (λ n. omega (arith, n))) (by_test (is_invalid_base none (some b)) (none_on_missing b))
-  where
-    by_test : (t : Bool) → (t ≡ false → ⊥) → t ≡ true
-    by_test true n = refl
-    by_test false n = absurd (n refl)
-
-pub unseen_by_test : (d b : ℕ) → (b ≡ 1000 * d → ⊥) → limb_day d b ≡ none
+pub unseen_by_test : (d b : ℕ) → ((b ≡ 1000 * d) × (d ≡ missing_mark)) ⊎ (b ≡ 1000 * d → ⊥) → limb_day d b ≡ none
 unfolding limb_day at_base
-unseen_by_test d b e = go (ℕ_discrete d missing_mark) (ℕ_discrete b no_value_mark)
+unseen_by_test d b (inl h) = rw (day_missing d h.1)
+unseen_by_test d b (inr e) = go (ℕ_discrete d missing_mark) (ℕ_discrete b no_value_mark)
   where
     go : Dec (d ≡ missing_mark) → Dec (b ≡ no_value_mark) → at_base (day_of d) (base_of b) ≡ none
     go (yes m) n = rw (day_missing d m)
     go (no m) (yes n) = rw (day_present d m, base_none b n)
     go (no m) (no n) = rw (day_present d m, base_value b n) (simp (ne_eqb b (1000 * d) e))
+
+-- A missing day with a base value of 1000 × its mark is invalid; so one test of a valid day is enough.
+invalid_by_test : (d b : ℕ) → b ≡ 1000 * d → d ≡ missing_mark → is_invalid_base (day_of d) (base_of b) ≡ true
+invalid_by_test d b e m = rw (day_missing d m, base_value b (λ n. omega (arith, n))) (true_from_ne_false _ (none_on_missing b))
+
+pub valid_seen : (d b : ℕ) → b ≡ 1000 * d → is_invalid_base (day_of d) (base_of b) ≡ false → limb_day d b ≡ some d
+valid_seen d b e v = seen_by_test d b e (λ m. true≢false (sym (invalid_by_test d b e m) ∙ v))
 
 pub view_few : (days base : List ℕ) → length (limb_days days base) ≤ length days
 unfolding limb_days
@@ -110,13 +106,3 @@ view_drop (suc t) (d ∷ ds) [] = at_none (drop t ds)
     at_none [] = refl
     at_none (d ∷ ds) = refl
 view_drop (suc t) (d ∷ ds) (b ∷ bs) = view_drop t ds bs
-
-pub gap_before : (earlier later : ℕ) → earlier ≡ missing_mark → false ≡ joined falls (day_of earlier) (day_of later)
-gap_before earlier later e = sym (ap (λ d. joined falls d (day_of later)) (day_missing earlier e) ∙ joined_after_gap falls (day_of later))
-
-pub by_order : (earlier later : ℕ) → (earlier ≡ missing_mark → ⊥) → earlier < 2 ^ 32 → ltb later earlier ≡ joined falls (day_of earlier) (day_of later)
-by_order earlier later present fits = go (ℕ_discrete later missing_mark)
-  where
-    go : Dec (later ≡ missing_mark) → ltb later earlier ≡ joined falls (day_of earlier) (day_of later)
-    go (yes e) = le-ltb later earlier (omega arith) ∙ sym (ap (joined falls (day_of earlier)) (day_missing later e) ∙ joined_none falls (day_of earlier))
-    go (no n) = sym (ap₂ (joined falls) (day_present earlier present) (day_present later n) ∙ joined_days falls earlier later)

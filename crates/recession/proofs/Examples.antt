@@ -10,9 +10,10 @@ use Rattle.series.specs.Units.{missing_mark, no_value_mark, is_invalid_day, day_
 use Rattle.series.specs.Lists.{too_long, lengths_differ, any_invalid_day, is_invalid_base, any_invalid_base}
 use Rattle.series.specs.Causes.{Outcome, accepted, refused, leaves}
 use Rattle.series.specs.Runs.{joined, further, runs_from}
+use Rattle.recession.specs.declared.Statistics.{Statistics}
 use Rattle.recession.specs.Limbs.{at_base, limb_day, limb_days, has_at_least, limbs, counted, precedes, longest_first, entries}
 use Rattle.recession.specs.Ratios.{pair_ratios, limb_ratios, median}
-use Rattle.recession.specs.Call.{no_ratio, limb_list_too_short, counted_limbs, counted_ratios, ratio_causes, Statistics, ratio_outcome, listed_limbs, ratio_leaves}
+use Rattle.recession.specs.Call.{no_ratio, limb_list_too_short, counted_limbs, counted_ratios, ratio_causes, ratio_outcome, listed_limbs, ratio_leaves}
 
 -- a river: L, the days, their base values, the limb list; the answer, and the limb list at exit
 record River : Type 0 where

@@ -17,8 +17,9 @@ use Rattle.series.specs.Units.{day_of, base_of, within}
 use Rattle.series.specs.Lists.{too_long, lengths_differ, any_invalid_day, any_invalid_base}
 use Rattle.series.specs.Causes.{accepted, refused}
 use Rattle.series.proofs.Refusing.{AllFalse, no_cause, next_false, refused_with, outcome_was_accepted, outcome_was_refused}
+use Rattle.recession.specs.declared.Statistics.{Statistics}
 use Rattle.recession.specs.Limbs.{Limb, RecessionLimb, limb_day, limb_days, falls, counted, precedes, longest_first}
-use Rattle.recession.specs.Call.{no_ratio, counted_limbs, counted_ratios, ratio_causes, Statistics, ratio_outcome}
+use Rattle.recession.specs.Call.{no_ratio, counted_limbs, counted_ratios, ratio_causes, ratio_outcome}
 use Rattle.recession.proofs.Days.{seen_at_base, at_base_seen, seen_at, seen_there}
 use Rattle.recession.proofs.Median.{median_at_most}
 use Rattle.recession.proofs.Selection.{counted_is, is_counted, counted_in_order, each_in_all}

@@ -1,27 +1,27 @@
 -- The walk over the days as the code goes it: from one run to the next, and so from limb to limb.
 -- Assumes nothing.
-use Prim.Native.Nat.{ℕ, suc, ◌+◌, ◌*◌, ◌-◌, ◌≤◌, ◌<◌, ◌^◌}
+use Prim.Native.Nat.{ℕ, suc, ◌+◌, ◌-◌, ◌≤◌, ◌<◌}
 use mathlib.Core.Path.{◌≡◌, refl, sym, ◌∙◌, ap, ap₂}
-use mathlib.Core.Bool.{Bool, true, false, true≢false, false≢true, not, ◌||◌, not-not}
+use mathlib.Core.Bool.{Bool, true, false, ◌||◌}
 use mathlib.Core.List.{List, [], ◌∷◌}
 use mathlib.Core.Option.{Option, none, some}
-use native.Mathlib.Decide.{dec_le}
 use native.Mathlib.Omega.{arith}
-use borrow.Author.Tests.{ltb-true, le-leb, lt-leb, eqb-true, eqb-false, not-true, not-false}
+use borrow.Author.Tests.{ltb-true, lt-ltb, le-ltb, le-leb, lt-leb}
 use lib.ListN.{length, get_or, take, drop, length-take, length-drop, drop_of_length-le}
-use lib.Dec.{eqb, leb}
+use Rattle.std.proofs.Common.{add-one}
+use lib.Dec.{leb}
 use lib.Seq.{drop-cons, drop-drop}
 use Rattle.numbers.specs.Lists.{selected}
 use Rattle.numbers.proofs.Selection.{selected_none, selected_pass, selected_fail}
-use Rattle.series.specs.Units.{day_of, base_of, missing_mark}
+use Rattle.series.specs.declared.Refusal.{Refusal}
+use Rattle.series.specs.Units.{day_of, base_of}
 use Rattle.series.specs.Lists.{is_invalid_base, any_invalid_base}
 use Rattle.series.specs.Runs.{joined, Longest, further, runs_from}
-use Rattle.series.proofs.Views.{day_present}
-use Rattle.series.proofs.Tests.{no_invalid_base, next_base}
-use Rattle.series.proofs.Runs.{joined_none, joined_after_gap, run_joins, first_run, further_none, further_stops, further_goes_on, further_length, walk_gap, walk_run, walk_end}
+use Rattle.series.proofs.Tests.{no_invalid_base, any_base}
+use Rattle.series.proofs.Runs.{joined_none, joined_after_gap, joined_days, run_joins, first_run, further_none, further_stops, further_goes_on, further_length, walk_gap, walk_run, walk_end}
 use Rattle.recession.specs.Limbs.{Limb, limb_day, limb_days, falls, has_at_least}
-use Rattle.recession.specs.Private.{Falling, falls_from, limbs_from, invalid_from, Skipped, SeenAt, StandsAt, run_end, run_at, Searched, LimbAt, NextLimb}
-use Rattle.recession.proofs.Days.{limb_present, limb_flow, limb_valid, seen_by_test, invalid_by_test, unseen_by_test, view_few, view_cons, view_drop}
+use Rattle.recession.specs.Private.{Falling, falls_from, limbs_from, invalid_from, SeenAt, InvalidFrom, FirstAtBase, run_end, run_at, LimbAt}
+use Rattle.recession.proofs.Days.{limb_flow, limb_valid, view_few, view_cons, view_drop}
 
 -- a longest fall, and so the fall behind a day, goes strictly down
 pub run_falling : {days : List (Option ℕ)} {start : ℕ} {flows : List ℕ} → Longest falls days start flows → Falling flows
@@ -53,7 +53,9 @@ module _ (days base : List ℕ) (same : length base ≡ length days) (p : ℕ) (
 
   by_test : {b : Bool} → test ≡ b → invalid_from days base p ≡ (b || invalid_from days base (p + 1))
   unfolding invalid_from
-  by_test e = next_base days base p h (omega (arith, same)) ∙ ap (λ b. b || invalid_from days base (p + 1)) e
+  by_test e =
+      let g : p < length base = omega (arith, same) in
+      rw add-one (ap₂ any_invalid_base (drop-cons days p 0 h) (drop-cons base p 0 g) ∙ any_base _ _ _ _ ∙ ap (λ b. b || any_invalid_base (drop (suc p) days) (drop (suc p) base)) e)
 
   past_valid : test ≡ false → invalid_from days base p ≡ invalid_from days base (p + 1)
   past_valid e = by_test e
@@ -69,76 +71,84 @@ pub none_behind : (days base : List ℕ) (p : ℕ) → length days ≤ p → inv
 unfolding invalid_from
 none_behind days base p h = ap (λ l. any_invalid_base l (drop p base)) (drop_of_length-le days h) ∙ no_invalid_base (drop p base)
 
+-- how many days are still to fall from p on, behind a day with the flow `last`
+pub to_fall : (days base : List ℕ) → (last p : ℕ) → ℕ
+to_fall days base last p = length (further falls (some last) (drop p (limb_days days base)))
+
+pub falls_start : (days base : List ℕ) (p : ℕ) → run_end days base p ≡ p + 1 + to_fall days base (get_or days p 0) (p + 1)
+unfolding run_end to_fall
+falls_start days base p = rw (add-one, ← add-one) refl
+
+module _ (days base : List ℕ) (last p : ℕ) (same : length base ≡ length days) where
+  -- by the day at p, as limbs see it
+  by_view : p < length days → {d : Option ℕ} → limb_day (get_or days p 0) (get_or base p 0) ≡ d → to_fall days base last p ≡ length (further falls (some last) (d ∷ drop (suc p) (limb_days days base)))
+  unfolding to_fall
+  by_view h e = ap (λ l. length (further falls (some last) l)) (view_cons days base p same h ∙ ap (λ d. d ∷ drop (suc p) (limb_days days base)) e)
+
+  pub falls_on : p < length days → {y : ℕ} → limb_day (get_or days p 0) (get_or base p 0) ≡ some y → y < last → to_fall days base last p ≡ 1 + to_fall days base y (p + 1)
+  unfolding to_fall
+  falls_on h {y} e g =
+      let on = ap length (further_goes_on falls (some last) y (drop (suc p) (limb_days days base)) (joined_days falls last y ∙ lt-ltb y last g)) in
+      rw add-one (omega (arith, by_view h e, on))
+
+  pub falls_no_more : p < length days → {y : ℕ} → limb_day (get_or days p 0) (get_or base p 0) ≡ some y → last ≤ y → to_fall days base last p ≡ 0
+  falls_no_more h {y} e g = by_view h e ∙ ap length (further_stops falls (some last) (some y) (drop (suc p) (limb_days days base)) (joined_days falls last y ∙ le-ltb y last g))
+
+  pub falls_not_over : p < length days → limb_day (get_or days p 0) (get_or base p 0) ≡ none → to_fall days base last p ≡ 0
+  falls_not_over h e = by_view h e ∙ ap length (further_stops falls (some last) none (drop (suc p) (limb_days days base)) (joined_none falls (some last)))
+
+pub falls_out : (days base : List ℕ) (last p : ℕ) → length days ≤ p → to_fall days base last p ≡ 0
+unfolding to_fall
+falls_out days base last p h =
+    let past : length (limb_days days base) ≤ p = omega (arith, view_few days base) in
+    ap (λ ds. length (further falls (some last) ds)) (drop_of_length-le (limb_days days base) past) ∙ ap length (further_none falls (some last))
+
+-- a day at base is valid
+pub valid_on : (days base : List ℕ) (p : ℕ) {y : ℕ} → length base ≡ length days → p < length days → limb_day (get_or days p 0) (get_or base p 0) ≡ some y → invalid_from days base p ≡ invalid_from days base (p + 1)
+valid_on days base p same h e = past_valid days base same p h (limb_valid _ _ e)
+
 -- The search for the end of a run: what has fallen from start to end, and what is still to fall behind the last of it.
 pub record Fallen (days base : List ℕ) (start end last : ℕ) : Type 0 where
   pub after : start < end
   pub inside : end ≤ length days
-  pub still : run_end days base start ≡ end + length (further falls (day_of last) (drop end (limb_days days base)))
+  pub still : run_end days base start ≡ end + to_fall days base last end
   pub tests : invalid_from days base start ≡ invalid_from days base end
 
-module _ (days base : List ℕ) (same : length base ≡ length days) (start : ℕ) where
-  pub fallen_start : start < length days → SeenAt days base start → Fallen days base start (start + 1) (get_or days start 0)
-  unfolding run_end
-  fallen_start h e =
-      let s : start + 1 ≡ suc start = omega arith in
-      record { after = omega arith; inside = omega arith; still = rw (s, limb_present _ _ e) refl; tests = past_valid days base same start h (limb_valid _ _ e) }
+-- The search for a day at base: no fall starts from p up to q, and no day is invalid.
+pub record Skipped (days base : List ℕ) (p q : ℕ) : Type 0 where
+  pub onward : p ≤ q
+  pub same : falls_from days base p ≡ falls_from days base q
+  pub tests : invalid_from days base p ≡ invalid_from days base q
 
-  module _ {end last : ℕ} (next : ℕ) (f : Fallen days base start end last) (h : end < length days) (e : day_of next ≡ limb_day (get_or days end 0) (get_or base end 0)) where
-    abbrev behind : List (Option ℕ)
-    behind = drop (suc end) (limb_days days base)
+pub skipped_start : (days base : List ℕ) (p : ℕ) → Skipped days base p p
+skipped_start days base p = record { onward = omega arith; same = refl; tests = refl }
 
-    to_fall : run_end days base start ≡ end + length (further falls (day_of last) (day_of next ∷ behind))
-    to_fall = f.still ∙ ap (λ l. end + length (further falls (day_of last) l)) (view_cons days base end same h ∙ ap (λ d. d ∷ behind) (sym e))
-
-    goes_on : (d : Option ℕ) → joined falls (day_of last) d ≡ true → length (further falls (day_of last) (d ∷ behind)) ≡ suc (length (further falls d behind))
-    goes_on none j = absurd (false≢true (sym (joined_none falls (day_of last)) ∙ j))
-    goes_on (some y) j = ap length (further_goes_on falls (day_of last) y behind j)
-
-    passed : (d : Option ℕ) → day_of next ≡ d → joined falls (day_of last) d ≡ true → invalid_from days base end ≡ invalid_from days base (end + 1)
-    passed none g j = absurd (false≢true (sym (joined_none falls (day_of last)) ∙ j))
-    passed (some y) g j = past_valid days base same end h (limb_valid _ _ (sym e ∙ g))
-
-    pub fallen_on : joined falls (day_of last) (day_of next) ≡ true → Fallen days base start (end + 1) next
-    fallen_on j =
-        let s : end + 1 ≡ suc end = omega arith in
-        record { after = omega (arith, f.after); inside = omega arith; still = rw s (omega (arith, to_fall, goes_on (day_of next) j)); tests = f.tests ∙ passed (day_of next) refl j }
-
-    pub fallen_stops : joined falls (day_of last) (day_of next) ≡ false → end ≡ run_end days base start
-    fallen_stops j = omega (arith, to_fall, ap length (further_stops falls (day_of last) (day_of next) behind j))
-
-  pub fallen_out : {end last : ℕ} → Fallen days base start end last → length days ≤ end → end ≡ run_end days base start
-  fallen_out {end} {last} f h =
-      let past : length (limb_days days base) ≤ end = omega (arith, view_few days base) in
-      omega (arith, f.still ∙ ap (λ ds. end + length (further falls (day_of last) ds)) (drop_of_length-le (limb_days days base) past), ap length (further_none falls (day_of last)))
-
--- no fall starts on a day that limbs do not see
-module _ (days base : List ℕ) (same : length base ≡ length days) where
-  past_gap : (p : ℕ) → p < length days → limb_day (get_or days p 0) (get_or base p 0) ≡ none → falls_from days base p ≡ falls_from days base (p + 1)
+module _ (days base : List ℕ) (same : length base ≡ length days) {p q : ℕ} (s : Skipped days base p q) (h : q < length days) where
+  -- no fall starts on a day that limbs do not see
+  past_gap : limb_day (get_or days q 0) (get_or base q 0) ≡ none → falls_from days base q ≡ falls_from days base (q + 1)
   unfolding falls_from
-  past_gap p h g =
-      let rest = drop (suc p) (limb_days days base) in
-      ap (runs_from falls p none) (view_cons days base p same h ∙ ap (λ d. d ∷ rest) g) ∙ walk_gap falls p rest ∙ ap (falls_from days base) (omega arith)
+  past_gap g =
+      let rest = drop (suc q) (limb_days days base) in
+      ap (runs_from falls q none) (view_cons days base q same h ∙ ap (λ d. d ∷ rest) g) ∙ walk_gap falls q rest ∙ ap (falls_from days base) (omega arith)
 
-  pub skipped_start : (p : ℕ) → Skipped days base p p
-  skipped_start p = record { onward = omega arith; same = refl; tests = refl }
+  pub skipped_next : limb_day (get_or days q 0) (get_or base q 0) ≡ none → is_invalid_base (day_of (get_or days q 0)) (base_of (get_or base q 0)) ≡ false → Skipped days base p (q + 1)
+  skipped_next g t = record { onward = omega (arith, s.onward); same = s.same ∙ past_gap g; tests = s.tests ∙ past_valid days base same q h t }
 
-  module _ {q : ℕ} (h : q < length days) where
-    pub skipped_next : {p : ℕ} → Skipped days base p q → (get_or base q 0 ≡ 1000 * get_or days q 0 → ⊥) → is_invalid_base (day_of (get_or days q 0)) (base_of (get_or base q 0)) ≡ false → Skipped days base p (q + 1)
-    skipped_next s e t = record { onward = omega (arith, s.onward); same = s.same ∙ past_gap q h (unseen_by_test _ _ e); tests = s.tests ∙ past_valid days base same q h t }
+  -- where it stops
+  pub first_found : SeenAt days base q → FirstAtBase days base p q
+  first_found e = record { onward = s.onward; inside = h; seen = e; same = s.same; tests = s.tests }
 
-    -- where it stops
-    pub stands_by_mark : get_or base q 0 ≡ 1000 * get_or days q 0 → get_or days q 0 < 2 ^ 32 → StandsAt days base q (not (eqb (get_or days q 0) missing_mark))
-    stands_by_mark e fits =
-        record {
-          seen = λ v _. sym (seen_by_test _ _ e fits) ∙ day_present _ (eqb-false _ missing_mark (not-true _ v));
-          refused = λ v. at_invalid days base same q h (invalid_by_test _ _ e (eqb-true _ missing_mark (not-false _ v)));
-        }
+  pub invalid_found : is_invalid_base (day_of (get_or days q 0)) (base_of (get_or base q 0)) ≡ true → invalid_from days base p ≡ true
+  invalid_found t = s.tests ∙ at_invalid days base same q h t
 
-    pub stands_invalid : is_invalid_base (day_of (get_or days q 0)) (base_of (get_or base q 0)) ≡ true → StandsAt days base q false
-    stands_invalid t = record { seen = λ v. absurd (false≢true v); refused = λ _. at_invalid days base same q h t }
+no_fall_left : (days base : List ℕ) (q : ℕ) → length days ≤ q → falls_from days base q ≡ []
+unfolding falls_from
+no_fall_left days base q h =
+    let past : length (limb_days days base) ≤ q = omega (arith, view_few days base) in
+    ap (runs_from falls q none) (drop_of_length-le (limb_days days base) past) ∙ walk_end falls q none
 
-  pub stands_behind : (q : ℕ) → length days ≤ q → StandsAt days base q true
-  stands_behind q h = record { seen = λ _ g. absurd (omega arith); refused = λ v. absurd (true≢false v) }
+pub skipped_all : {days base : List ℕ} {p q : ℕ} → Skipped days base p q → length days ≤ q → (falls_from days base p ≡ []) × (invalid_from days base p ≡ false)
+skipped_all {days} {base} {q = q} s h = (s.same ∙ no_fall_left days base q h, s.tests ∙ none_behind days base q h)
 
 -- one turn of the walk: the run that starts at p, then the walk from its end on
 module _ (days base : List ℕ) (same : length base ≡ length days) (p : ℕ) (h : p < length days) (seen : SeenAt days base p) {e : ℕ} (end : e ≡ run_end days base p) where
@@ -163,7 +173,7 @@ module _ (days base : List ℕ) (same : length base ≡ length days) (p : ℕ) (
   unfolding run_end
   run_inside = omega (arith, further_length falls (some flow) rest, length-drop (suc p) (limb_days days base), view_few days base)
 
-  run_size : length (run_at days p e).flows ≡ e - p
+  pub run_size : length (run_at days p e).flows ≡ e - p
   run_size = omega (arith, length-take (e - p) (drop p days), length-drop p days, run_inside)
 
   from_end : runs_from falls (suc p + length more) none (drop (length more) rest) ≡ from e
@@ -177,79 +187,68 @@ module _ (days base : List ℕ) (same : length base ≡ length days) (p : ℕ) (
       let flows : more ≡ take (length more) (drop (suc p) days) = rw (view_drop (suc p) days base) (fall_flows (some flow) (drop (suc p) days) (drop (suc p) base)) in
       rw (size, drop-cons days p 0 h) (ap (λ l. flow ∷ l) flows)
 
+  run_falls : Falling (run_at days p e).flows
+  run_falls = rw (← run_flows) (fall_falling flow rest)
+
   one_run : from p ≡ run_at days p e ∷ from e
   unfolding falls_from
   one_run =
       ap (runs_from falls p none) (view_cons days base p same h ∙ ap (λ d. d ∷ rest) seen) ∙ walk_run falls p flow rest
       ∙ ap₂ (λ f l. record { start = p; flows = f } ∷ l) run_flows from_end
 
-  -- a run that counts, and one that is too short
-  module _ (L : ℕ) where
-    pub counts_here : invalid_from days base p ≡ invalid_from days base e → L ≤ e - p → LimbAt L days base p p e
+pub ends_behind : {days base : List ℕ} → length base ≡ length days → {p q e : ℕ} → FirstAtBase days base p q → e ≡ run_end days base q → (p ≤ q) × (q < e) × (q < length days)
+ends_behind {days} {base} same {q = q} f end = (f.onward, run_after days base same q f.inside f.seen end, f.inside)
+
+-- The search for a limb: from p up to q no limb starts, and no day is invalid.
+pub record Searched (L : ℕ) (days base : List ℕ) (p q : ℕ) : Type 0 where
+  pub onward : p ≤ q
+  pub same : limbs_from L days base p ≡ limbs_from L days base q
+  pub tests : invalid_from days base p ≡ invalid_from days base q
+
+pub searched_start : (L : ℕ) (days base : List ℕ) (p : ℕ) → Searched L days base p p
+searched_start L days base p = record { onward = omega arith; same = refl; tests = refl }
+
+module _ {L : ℕ} {days base : List ℕ} {from p : ℕ} (s : Searched L days base from p) where
+  -- one day at base more, and the fall that starts there
+  module _ (same : length base ≡ length days) {q e : ℕ} (f : FirstAtBase days base p q) (end : e ≡ run_end days base q) (tests : invalid_from days base q ≡ invalid_from days base e) where
+    to_here : limbs_from L days base from ≡ selected (has_at_least L) (run_at days q e ∷ falls_from days base e)
+    unfolding limbs_from
+    to_here = s.same ∙ ap (selected (has_at_least L)) (f.same ∙ one_run days base same q f.inside f.seen end)
+
+    run_length : leb L (length (run_at days q e).flows) ≡ leb L (e - q)
+    run_length = ap (leb L) (run_size days base same q f.inside f.seen end)
+
+    pub limb_found : L ≤ e - q → LimbAt L days base from q e
     unfolding limbs_from has_at_least
-    counts_here t g =
+    limb_found g =
         record {
-          reached = record { onward = omega arith; same = refl; tests = refl };
-          forward = run_after;
-          inside = run_inside;
-          next = ap (selected (has_at_least L)) one_run ∙ selected_pass (has_at_least L) (from e) (ap (leb L) run_size ∙ le-leb L (e - p) g);
-          tests = t;
-          falling = rw (← run_flows) (fall_falling flow rest);
+          onward = omega (arith, s.onward, f.onward);
+          forward = run_after days base same q f.inside f.seen end;
+          inside = run_inside days base same q f.inside f.seen end;
+          seen = f.seen;
+          run = end;
+          next = to_here ∙ selected_pass (has_at_least L) (falls_from days base e) (run_length ∙ le-leb L (e - q) g);
+          tests = s.tests ∙ f.tests ∙ tests;
+          falling = run_falls days base same q f.inside f.seen end;
         }
 
-    pub short_here : e - p < L → limbs_from L days base p ≡ limbs_from L days base e
+    -- too short
+    pub searched_next : e - q < L → Searched L days base from e
     unfolding limbs_from has_at_least
-    short_here g = ap (selected (has_at_least L)) one_run ∙ selected_fail (has_at_least L) (from e) (ap (leb L) run_size ∙ lt-leb L (e - p) g)
+    searched_next g =
+        record {
+          onward = omega (arith, s.onward, f.onward, run_after days base same q f.inside f.seen end);
+          same = to_here ∙ selected_fail (has_at_least L) (falls_from days base e) (run_length ∙ lt-leb L (e - q) g);
+          tests = s.tests ∙ f.tests ∙ tests;
+        }
 
--- the search for a limb: none stands before `first`
-pub searched_start : (L : ℕ) (days base : List ℕ) (from : ℕ) → Searched L days base from from
-searched_start L days base from = record { onward = omega arith; same = refl; tests = refl }
-
-module _ {L : ℕ} {days base : List ℕ} {from first : ℕ} (s : Searched L days base from first) where
-  pub searched_next : {e : ℕ} → first < e → limbs_from L days base first ≡ limbs_from L days base e → invalid_from days base first ≡ invalid_from days base e → Searched L days base from e
-  searched_next h g t = record { onward = omega (arith, s.onward); same = s.same ∙ g; tests = s.tests ∙ t }
-
-  pub searched_past : {q : ℕ} → Skipped days base first q → Searched L days base from q
+  -- none is found: the list ends, or an invalid day comes first
+  pub none_found : (falls_from days base p ≡ []) × (invalid_from days base p ≡ false) → (limbs_from L days base from ≡ []) × (invalid_from days base from ≡ false)
   unfolding limbs_from
-  searched_past k = record { onward = omega (arith, s.onward, k.onward); same = s.same ∙ ap (selected (has_at_least L)) k.same; tests = s.tests ∙ k.tests }
+  none_found n = (s.same ∙ ap (selected (has_at_least L)) n.0 ∙ selected_none (has_at_least L), s.tests ∙ n.1)
 
-  pub limb_found : {e : ℕ} {valid : Bool} → LimbAt L days base first first e → NextLimb L days base from first e valid
-  limb_found l =
-      record {
-        onward = s.onward;
-        there = λ h. record { reached = s; forward = l.forward; inside = l.inside; next = s.same ∙ l.next; tests = s.tests ∙ l.tests; falling = l.falling };
-        nowhere = λ h. absurd (omega (arith, l.forward));
-      }
-
-  -- none is found: an invalid day comes first, or the list ends
-  pub none_found : {valid : Bool} → invalid_from days base first ≡ not valid → (valid ≡ true → limbs_from L days base first ≡ []) → NextLimb L days base from first first valid
-  none_found {valid} t e = record { onward = s.onward; there = λ g. absurd (omega arith); nowhere = λ g. (sym (ap not (s.tests ∙ t) ∙ not-not valid), λ v. s.same ∙ e v) }
-
-pub no_limb_left : (L : ℕ) (days base : List ℕ) (p : ℕ) → length days ≤ p → limbs_from L days base p ≡ []
-unfolding limbs_from falls_from
-no_limb_left L days base p h =
-    let past : length (limb_days days base) ≤ p = omega (arith, view_few days base) in
-    ap (λ ds. selected (has_at_least L) (runs_from falls p none ds)) (drop_of_length-le (limb_days days base) past) ∙ ap (selected (has_at_least L)) (walk_end falls p none) ∙ selected_none (has_at_least L)
-
--- a loop over the limbs: the one in hand is the next from a position on, before which no day is invalid
-pub record InHand (L : ℕ) (days base : List ℕ) (first end : ℕ) (valid : Bool) : Type 0 where
-  pub from : ℕ
-  pub search : NextLimb L days base from first end valid
-  pub tests : invalid_from days base 0 ≡ invalid_from days base from
-
-abbrev pub in_hand : {L : ℕ} {days base : List ℕ} {from first end : ℕ} {valid : Bool} → NextLimb L days base from first end valid → invalid_from days base 0 ≡ invalid_from days base from → InHand L days base first end valid
-in_hand {from = from} n t = record { from = from; search = n; tests = t }
-
-pub the_limb : {L : ℕ} {days base : List ℕ} {first end : ℕ} {valid : Bool} (i : InHand L days base first end valid) → first < end → LimbAt L days base i.from first end
-the_limb i h = i.search.there h
-
--- a search where there is a limb, and no invalid day, finds it
-pub limb_there : {L : ℕ} {days base : List ℕ} {from first end : ℕ} {valid : Bool} → NextLimb L days base from first end valid → invalid_from days base from ≡ false → 0 < length (limbs_from L days base from) → LimbAt L days base from first end
-limb_there {first = first} {end} n t h =
-    elim (dec_le end first) [
-      | yes g ↦ let none_there = n.nowhere g in absurd (omega (arith, ap length (none_there.1 (none_there.0 ∙ ap not t))))
-      | no g ↦ n.there (omega (arith, g))
-    ]
+  pub invalid_first : {r : Refusal} → InvalidFrom days base p r → InvalidFrom days base from r
+  invalid_first i = (i.0, s.tests ∙ i.1)
 
 pub limb_size : {L : ℕ} {days base : List ℕ} {from first end : ℕ} → LimbAt L days base from first end → length (run_at days first end).flows ≡ end - first
 limb_size {days = days} {first = first} {end} l = omega (arith, length-take (end - first) (drop first days), length-drop first days, l.inside)

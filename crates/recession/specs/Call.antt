@@ -3,11 +3,10 @@ use Rattle.std.specs.Prelude.{ℕ, ◌*◌, Bool, not, List, [], ◌∷◌, leng
 use Rattle.numbers.specs.Lists.{stored}
 use Rattle.series.specs.Units.{within}
 use Rattle.series.specs.Lists.{too_long, lengths_differ, any_invalid_day, any_invalid_base}
-use Rattle.series.specs.Causes.{Cause, cause, Outcome, accepted, refused, outcome, leaves, refusal_number}
+use Rattle.series.specs.Causes.{Cause, cause, Outcome, outcome, leaves}
 use Rattle.recession.specs.Limbs.{Limb, limb_days, counted, longest_first, entries}
 use Rattle.recession.specs.Ratios.{limb_ratios, median}
-use Rattle.recession.specs.declared.Answer.{Answer}
-use Rattle.recession.specs.declared.Answer.TheVariants.{Ratios, Refused}
+use Rattle.recession.specs.declared.Statistics.{Statistics}
 
 -- 19: no ratio
 unfoldable pub no_ratio : List ℕ → Bool
@@ -36,20 +35,10 @@ ratio_causes L days base list =
     ∷ cause (limb_list_too_short (counted_limbs L days base) list) 22
     ∷ []
 
--- the values of an answer: the number of ratios, and their median
-pub record Statistics : Type 0 where
-  pub count : ℕ
-  pub median : ℕ
-
--- the answer by document 01, for L, a day list, a base list and a limb list
+-- the answer by document 01 (`Statistics`, of src/lib.rt: k, the number of ratios, and their median), for L, a day list, a base list and a limb list
 unfoldable pub ratio_outcome : ℕ → (days base list : List ℕ) → Outcome Statistics
 ratio_outcome L days base list =
     outcome (ratio_causes L days base list) (record { count = length (counted_ratios L days base); median = median (counted_ratios L days base) })
-
--- document 01's values, or its number, for each case of the call's answer
-abbrev pub outcome_of : Answer → Outcome Statistics
-outcome_of (Ratios count median) = accepted (record { count = count; median = median })
-outcome_of (Refused r) = refused (refusal_number r)
 
 -- the limb list after an accepted call: the counted limbs, the longest first, and then the rest as it was
 unfoldable pub listed_limbs : ℕ → (days base list : List ℕ) → List ℕ

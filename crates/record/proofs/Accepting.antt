@@ -16,7 +16,8 @@ use Rattle.series.specs.Causes.{first_cause, by_cause, Outcome, accepted, refuse
 use Rattle.series.proofs.Refusing.{never_both, refusal_among}
 use Rattle.series.specs.Lists.{any_invalid_day}
 use Rattle.record.specs.Entries.{first_day_limit, Entry, entry_of, kind_of, is_end, body_length, stated_days, entry_causes}
-use Rattle.record.specs.Call.{Stated, entry_then, days_from, first_day_of, reading, Reply, reply_of, read_leaves}
+use Rattle.record.specs.declared.Reply.{Reply}
+use Rattle.record.specs.Call.{Stated, entry_then, days_from, first_day_of, reading, reply_of, read_leaves}
 use Rattle.record.specs.Private.{is_accepted}
 use Rattle.record.proofs.Soundness.{sound, head_in_range, from_all}
 

@@ -1,24 +1,32 @@
--- The number of two or four bytes, from the bytes themselves.
+-- The number of two or four bytes, the lowest first: byte by byte, and as the library reads it.
 -- Assumes nothing.
-use Prim.Native.Nat.{ℕ, suc, ◌+◌, ◌*◌, ◌≤◌, ◌<◌}
+use Prim.Native.Nat.{ℕ, ◌+◌, ◌*◌, ◌≤◌}
 use mathlib.Core.Path.{◌≡◌}
-use mathlib.Core.List.{List}
-use native.Mathlib.Numerals.{towards_suc}
+use mathlib.Core.List.{List, [], ◌∷◌}
 use native.Mathlib.Omega.{arith}
-use lib.ListN.{length, get_or, take, drop}
-use lib.Seq.{drop-cons}
+use lib.ListN.{length, get_or, take}
+use Rattle.std.proofs.lemmas.List.{get_or-take}
+use Rattle.std.specs.Int.{from_le_bytes, w16, w32}
 use Rattle.record.specs.Entries.{number}
 
-number_cons : (k : ℕ) (s : List ℕ) (at : ℕ) → at < length s → number (take (suc k) (drop at s)) ≡ get_or s at 0 + 256 * number (take k (drop (suc at) s))
+pub two_bytes : (s : List ℕ) → 2 ≤ length s → number (take 2 s) ≡ get_or s 0 0 + 256 * get_or s 1 0
 unfolding number
-number_cons k s at h = rw (drop-cons s at 0)
+two_bytes [] h = absurd (omega arith)
+two_bytes (a ∷ []) h = absurd (omega arith)
+two_bytes (a ∷ b ∷ s) h = omega arith
 
-module _ (s : List ℕ) (at : ℕ) {a b : ℕ} (first : a ≡ get_or s at 0) (second : b ≡ get_or s (at + 1) 0) where
-  pub two : at + 2 ≤ length s → a + 256 * b ≡ number (take 2 (drop at s))
-  unfolding number
-  two h = omega (arith, simp towards_suc at second, number_cons 1 s at (omega arith), number_cons 0 s (suc at) (omega arith))
+pub four_bytes : (s : List ℕ) → 4 ≤ length s → number (take 4 s) ≡ get_or s 0 0 + 256 * get_or s 1 0 + 65536 * get_or s 2 0 + 16777216 * get_or s 3 0
+unfolding number
+four_bytes [] h = absurd (omega arith)
+four_bytes (a ∷ []) h = absurd (omega arith)
+four_bytes (a ∷ b ∷ []) h = absurd (omega arith)
+four_bytes (a ∷ b ∷ c ∷ []) h = absurd (omega arith)
+four_bytes (a ∷ b ∷ c ∷ d ∷ s) h = omega arith
 
-  pub four : {c d : ℕ} → c ≡ get_or s (at + 2) 0 → d ≡ get_or s (at + 3) 0 → at + 4 ≤ length s → a + 256 * b + 65536 * c + 16777216 * d ≡ number (take 4 (drop at s))
-  unfolding number
-  four third fourth h =
-      omega (arith, simp towards_suc at second, simp towards_suc at third, simp towards_suc at fourth, number_cons 3 s at (omega arith), number_cons 2 s (suc at) (omega arith), number_cons 1 s (suc (suc at)) (omega arith), number_cons 0 s (suc (suc (suc at))) (omega arith))
+pub two_read : (s : List ℕ) → 2 ≤ length s → from_le_bytes w16 (take 2 s) ≡ number (take 2 s)
+two_read s h =
+    omega (arith, two_bytes s h, get_or-take 2 s 0 0 (omega arith), get_or-take 2 s 1 0 (omega arith))
+
+pub four_read : (s : List ℕ) → 4 ≤ length s → from_le_bytes w32 (take 4 s) ≡ number (take 4 s)
+four_read s h =
+    omega (arith, four_bytes s h, get_or-take 4 s 0 0 (omega arith), get_or-take 4 s 1 0 (omega arith), get_or-take 4 s 2 0 (omega arith), get_or-take 4 s 3 0 (omega arith))

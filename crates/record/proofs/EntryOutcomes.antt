@@ -12,18 +12,18 @@ use Rattle.series.specs.Units.{day_limit}
 use Rattle.series.specs.Causes.{first_cause, Outcome, accepted, refused, map_outcome}
 use Rattle.series.proofs.Refusing.{passed as every, never_both}
 use Rattle.record.specs.declared.entry.Kind.{Kind}
-use Rattle.record.specs.declared.entry.Kind.TheVariants.{Head, Flow, MissingDay, MissingDays, End, Unknown}
+use Rattle.record.specs.declared.entry.Kind.TheVariants.{Head, Flow, MissingDay, MissingDays, End}
 use Rattle.record.specs.Entries.{Entry, is_unknown, is_end, misplaced, body_length, out_of_range, value, stated_days, entry_causes}
 use Rattle.record.specs.Call.{entry_then}
 
 -- what may come first is a head
-pub head_first : (k : Kind) → misplaced true k ≡ false → k ≡ Head
-head_first Head h = refl
-head_first Flow h = absurd (true≢false h)
-head_first MissingDay h = absurd (true≢false h)
-head_first MissingDays h = absurd (true≢false h)
-head_first End h = absurd (true≢false h)
-head_first Unknown h = absurd (true≢false h)
+pub head_first : (k : Option Kind) → misplaced true k ≡ false → k ≡ some Head
+head_first (some Head) h = refl
+head_first (some Flow) h = absurd (true≢false h)
+head_first (some MissingDay) h = absurd (true≢false h)
+head_first (some MissingDays) h = absurd (true≢false h)
+head_first (some End) h = absurd (true≢false h)
+head_first none h = absurd (true≢false h)
 
 -- an entry with no cause
 pub record Passed (first : Bool) (n room : ℕ) (e : Entry) : Type 0 where

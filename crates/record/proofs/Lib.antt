@@ -2,11 +2,9 @@ mod Sentences
 pub mod Accepting
 mod Examples
 mod Bytes
-mod Naming
-mod Tests
-mod Stores
 mod EntryOutcomes
 mod Soundness
+mod Fronts
 mod Walk
 mod WritingWalk
-mod Stepping
+mod Reading

@@ -2,23 +2,26 @@
 -- passes over a body byte by byte. Between them they say what any bytes come to.
 -- Assumes nothing.
 use Prim.Native.Nat.{ℕ, zero, suc, ◌+◌, ◌*◌, ◌≤◌}
-use mathlib.Core.Path.{◌≡◌, refl, sym}
+use mathlib.Core.Path.{◌≡◌, refl}
 use mathlib.Core.Bool.{Bool, true, false}
 use mathlib.Core.List.{List, [], ◌∷◌, ◌++◌}
 use mathlib.Core.Option.{none, some}
-use lib.ListN.{length, get_or, take, drop}
+use native.Mathlib.Nat.{add-zero}
+use native.Mathlib.Omega.{arith}
+use lib.ListN.{length, get_or, take, drop, length-drop}
+use Rattle.std.proofs.lemmas.List.{get_or-drop}
 use Rattle.series.specs.Causes.{first_cause, accepted, refused, map_outcome}
 use Rattle.record.specs.Entries.{number, Entry, entry_of, is_end, body_length, stated_days, entry_causes}
 use Rattle.record.specs.Call.{entry_then, days_from}
-use Rattle.record.proofs.Bytes.{two, four}
+use Rattle.record.proofs.Bytes.{two_bytes, four_bytes}
 
 -- A number of a record, wherever it stands in the bytes, is theirs, the lowest byte first.
 module _ (bytes : List ℕ) (at : ℕ) where
   pub four_byte_number : at + 4 ≤ length bytes → number (take 4 (drop at bytes)) ≡ get_or bytes at 0 + 256 * get_or bytes (at + 1) 0 + 65536 * get_or bytes (at + 2) 0 + 16777216 * get_or bytes (at + 3) 0
-  four_byte_number h = sym (four bytes at refl refl refl refl h)
+  four_byte_number h = omega (arith, four_bytes (drop at bytes) (omega (arith, length-drop at bytes)), rw add-zero at (get_or-drop at bytes 0 0), get_or-drop at bytes 1 0, get_or-drop at bytes 2 0, get_or-drop at bytes 3 0)
 
   pub two_byte_number : at + 2 ≤ length bytes → number (take 2 (drop at bytes)) ≡ get_or bytes at 0 + 256 * get_or bytes (at + 1) 0
-  two_byte_number h = sym (two bytes at refl refl h)
+  two_byte_number h = omega (arith, two_bytes (drop at bytes) (omega (arith, length-drop at bytes)), rw add-zero at (get_or-drop at bytes 0 0), get_or-drop at bytes 1 0)
 
 -- reading behind a body is reading the bytes behind it
 pub pass_over : (first : Bool) (n room over : ℕ) (bytes : List ℕ) → days_from first n room over bytes ≡ days_from first n room 0 (drop over bytes)

@@ -5,6 +5,7 @@ use Prim.Native.Nat.{ℕ, zero, suc, ◌+◌, ◌≤◌}
 use mathlib.Core.Path.{◌≡◌, sym, ◌∙◌, ap}
 use mathlib.Core.Bool.{Bool, true, false}
 use mathlib.Core.List.{List, [], ◌∷◌}
+use mathlib.Core.Option.{Option, some, none}
 use native.Mathlib.Omega.{arith}
 use lib.ListN.{length, length-append}
 use Rattle.series.specs.Units.{day_limit, flow_limit}
@@ -14,19 +15,19 @@ use Rattle.series.proofs.Refusing.{never_both}
 use Rattle.series.proofs.Views.{valid_flow, not_outside}
 use Rattle.series.proofs.Tests.{no_invalid_day, any_day, any_append, valid_gap}
 use Rattle.record.specs.declared.entry.Kind.{Kind}
-use Rattle.record.specs.declared.entry.Kind.TheVariants.{Head, Flow, MissingDay, MissingDays, End, Unknown}
+use Rattle.record.specs.declared.entry.Kind.TheVariants.{Head, Flow, MissingDay, MissingDays, End}
 use Rattle.record.specs.Entries.{first_day_limit, Entry, entry_of, kind_of, body_length, out_of_range, days_of, value, stated_days}
 use Rattle.record.specs.Call.{Stated, days_from, first_day_of, reading}
 use Rattle.record.proofs.EntryOutcomes.{head_first, AcceptedEntry, at_end, goes_on, accepted_entry, entry_passed}
 
 -- the days of an entry whose value is in range are flows or missing
-valid_days : (k : Kind) (v : ℕ) → out_of_range k v ≡ false → any_invalid_day (days_of k v) ≡ false
-valid_days Head v h = no_invalid_day
-valid_days Flow v h = rw (any_day v [], valid_flow v (not_outside 0 flow_limit v h).1) no_invalid_day
-valid_days MissingDay v h = valid_gap 1
-valid_days MissingDays v h = valid_gap v
-valid_days End v h = no_invalid_day
-valid_days Unknown v h = no_invalid_day
+valid_days : (k : Option Kind) (v : ℕ) → out_of_range k v ≡ false → any_invalid_day (days_of k v) ≡ false
+valid_days (some Head) v h = no_invalid_day
+valid_days (some Flow) v h = rw (any_day v [], valid_flow v (not_outside 0 flow_limit v h).1) no_invalid_day
+valid_days (some MissingDay) v h = valid_gap 1
+valid_days (some MissingDays) v h = valid_gap v
+valid_days (some End) v h = no_invalid_day
+valid_days none v h = no_invalid_day
 
 -- what holds of the days that bytes state behind n days
 pub record SoundDays (n room : ℕ) (ds : List ℕ) : Type 0 where

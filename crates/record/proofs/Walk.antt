@@ -1,174 +1,118 @@
--- A walk over the bytes, by position: what both walks know when they come to an entry, and what follows from it.
+-- A walk over the bytes behind a head: the days behind it, and what the bytes that are left come to.
 -- Assumes nothing.
-use Prim.Native.Nat.{ℕ, suc, ◌+◌, ◌≤◌, ◌<◌}
-use mathlib.Core.Path.{◌≡◌, refl, sym, ◌∙◌, ap, subst}
+use Prim.Native.Nat.{ℕ, ◌+◌, ◌≤◌}
+use mathlib.Core.Path.{◌≡◌, refl, sym, ◌∙◌, ap, ap₂}
 use mathlib.Core.Bool.{Bool, true, false, true≢false}
 use mathlib.Core.List.{List, [], ◌∷◌, ◌++◌, append_assoc, append-nil}
-use mathlib.Core.Option.{Option, none, some}
-use native.Mathlib.Nat.{lt_of_not-le}
-use native.Mathlib.Decide.{dec_le}
+use mathlib.Core.Option.{Option, some, none, some-ne-none}
 use native.Mathlib.Omega.{arith}
-use borrow.Author.Tests.{ne_eqb, eqb-true}
-use lib.ListN.{length, get_or, take, drop, length-append, length-take, length-drop, drop_of_length-le}
-use lib.Seq.{drop-cons, drop-drop}
-use lib.Dec.{eqb}
+use lib.ListN.{length, length-append}
 use Rattle.series.specs.Units.{day_limit}
 use Rattle.series.specs.Causes.{first_cause, Outcome, accepted, refused, map_outcome}
 use Rattle.record.specs.declared.entry.Kind.{Kind}
-use Rattle.record.specs.Entries.{number, kind_of, is_end, misplaced, body_length, Entry, stated_days, entry_causes}
-use Rattle.record.specs.Call.{days_from, first_day_of, reading, reply_of}
-use Rattle.record.specs.Private.{is_accepted, entry_at}
+use Rattle.record.specs.declared.entry.Kind.TheVariants.{Head, Flow, MissingDay, MissingDays, End}
+use Rattle.record.specs.declared.entry.Entry.{Entry as Found}
+use Rattle.record.specs.Entries.{entry_of, is_unknown, is_end, misplaced, days_of, stated_days}
+use Rattle.record.specs.Call.{days_from}
+use Rattle.record.specs.Private.{front, front_causes, AtFront, states_days, DaysInFront, whole_causes}
+use Rattle.record.proofs.EntryOutcomes.{Passed, passed}
+use Rattle.record.proofs.Fronts.{whole}
 use Rattle.record.proofs.Sentences.{no_entry, refused_entry, end_entry, other_entry}
-use Rattle.record.proofs.EntryOutcomes.{head_first, Passed, passed}
 
 -- days handed over before an outcome's own
-abbrev before : List ℕ → Outcome (List ℕ) → Outcome (List ℕ)
+abbrev pub before : List ℕ → Outcome (List ℕ) → Outcome (List ℕ)
 before front o = map_outcome (λ ds. front ++ ds) o
 
-before_none : (o : Outcome (List ℕ)) → before [] o ≡ o
+pub before_none : (o : Outcome (List ℕ)) → before [] o ≡ o
 before_none (accepted ds) = refl
 before_none (refused n) = refl
 
-before_before : (a b : List ℕ) (o : Outcome (List ℕ)) → before a (before b o) ≡ before (a ++ b) o
+pub before_before : (a b : List ℕ) (o : Outcome (List ℕ)) → before a (before b o) ≡ before (a ++ b) o
 before_before a b (accepted ds) = ap accepted (sym (append_assoc a b ds))
 before_before a b (refused n) = refl
 
--- what the bytes from `at` on come to, behind n days
-abbrev from : List ℕ → ℕ → ℕ → ℕ → Outcome (List ℕ)
-from s room at n = days_from (eqb at 0) n room 0 (drop at s)
+-- the days of an entry that the code found
+abbrev pub own_days : Found → List ℕ
+own_days e = days_of (some e.kind) e.value
 
--- the head has passed: its value is the first day
-pub record Headed (s : List ℕ) : Type 0 where
-  pub long : 1 + 4 ≤ length s
-  pub first_day : first_day_of s ≡ number (take 4 (drop 1 s))
+-- what bytes come to, by the first cause of what stands at their front
+module _ (first : Bool) (n room : ℕ) where
+  pub refused_front : (s : List ℕ) {r : ℕ} → first_cause (front_causes first n room s) ≡ some r → days_from first n room 0 s ≡ refused r
+  refused_front [] h = let q = no_entry first n room in cc
+  refused_front (b ∷ bs) h = refused_entry first n room b bs h
 
--- a walk at `at`, with n days behind it
-pub record Walked (s : List ℕ) (room at n : ℕ) : Type 0 where
+  pub end_front : (s : List ℕ) → first_cause (front_causes first n room s) ≡ none → is_end (front s).kind ≡ true → days_from first n room 0 s ≡ accepted []
+  end_front [] h k = absurd (true≢false (sym k))
+  end_front (b ∷ bs) h k = end_entry first n room b bs h k
+
+  pub next_front : (s : List ℕ) {e : Found} → first_cause (front_causes first n room s) ≡ none → AtFront s e → is_end (some e.kind) ≡ false
+      → days_from first n room 0 s ≡ before (own_days e) (days_from false (n + length (own_days e)) room 0 e.behind.now)
+  next_front [] h w k = absurd (let z = w.kind in cc)
+  next_front (b ∷ bs) {e} h w k =
+      let d : own_days e ≡ stated_days (entry_of b bs) = ap₂ days_of (sym w.kind) w.value in
+      rw (d, w.behind) (other_entry first n room b bs h (rw w.kind k))
+
+-- a walk that has come to the bytes left, with n days behind it
+pub record Walked (s : List ℕ) (room : ℕ) (rest : List ℕ) (n : ℕ) : Type 0 where
   pub front : List ℕ
   pub counted : length front ≡ n
-  pub left : from s room 0 0 ≡ before front (from s room at n)
+  pub left : days_from false 0 room 0 s ≡ before front (days_from false n room 0 rest)
   pub total : n ≤ day_limit
   pub fits : n ≤ room
-  pub headed : eqb at 0 ≡ false → Headed s
 
-pub begin : (s : List ℕ) (room : ℕ) → Walked s room 0 0
-begin s room =
-    record { front = []; counted = refl; left = sym (before_none (from s room 0 0)); total = omega arith; fits = omega arith; headed = λ h. absurd (true≢false h) }
+unfoldable pub begin : (s : List ℕ) (room : ℕ) → Walked s room s 0
+begin s room = record { front = []; counted = refl; left = sym (before_none (days_from false 0 room 0 s)); total = omega arith; fits = omega arith }
 
-pub begin_front : (s : List ℕ) (room : ℕ) → (begin s room).front ≡ []
-unfolding begin
-begin_front s room = refl
+-- a kind that states days stands behind a head, and is no end; and one that stands there and states none is the end
+days_kind : (k : Option Kind) → states_days k ≡ true → (misplaced false k ≡ false) × (is_end k ≡ false)
+days_kind (some Head) h = absurd (true≢false (sym h))
+days_kind (some Flow) h = (refl, refl)
+days_kind (some MissingDay) h = (refl, refl)
+days_kind (some MissingDays) h = (refl, refl)
+days_kind (some End) h = absurd (true≢false (sym h))
+days_kind none h = absurd (true≢false (sym h))
 
--- what reading comes to, from what all bytes come to
-reading_is : (s : List ℕ) (room : ℕ) {o : Outcome (List ℕ)} → from s room 0 0 ≡ o → reading room s ≡ map_outcome (λ ds. record { first_day = first_day_of s; days = ds }) o
-unfolding reading
-reading_is s room h = ap (map_outcome (λ ds. record { first_day = first_day_of s; days = ds })) h
+end_kind : (k : Option Kind) → is_unknown k ≡ false → misplaced false k ≡ false → (states_days k ≡ true → ⊥) → is_end k ≡ true
+end_kind (some Head) u m h = absurd (true≢false m)
+end_kind (some Flow) u m h = absurd (h refl)
+end_kind (some MissingDay) u m h = absurd (h refl)
+end_kind (some MissingDays) u m h = absurd (h refl)
+end_kind (some End) u m h = refl
+end_kind none u m h = absurd (true≢false u)
 
--- no end entry comes first
-end_later : (first : Bool) (k : Kind) → is_end k ≡ true → misplaced first k ≡ false → first ≡ false
-end_later false k h m = refl
-end_later true k h m = absurd (true≢false (sym h ∙ ap is_end (head_first k m)))
+-- what stands at the front with no cause
+pub passed_front : (first : Bool) (n room : ℕ) (s : List ℕ) → first_cause (front_causes first n room s) ≡ none → Passed first n room (front s)
+passed_front first n room [] h = absurd (some-ne-none 1 h)
+passed_front first n room (b ∷ bs) h = passed first n room (entry_of b bs) h
 
-head_passed : (s : List ℕ) (n room : ℕ) → 0 < length s → Passed true n room (entry_at s 0) → Headed s
-unfolding first_day_of
-head_passed [] n room l p = absurd (omega arith)
-head_passed (b ∷ bs) n room l p =
-    let k = head_first (kind_of b) p.placed in
-    record {
-      long = omega (arith, rw k at p.complete, length-take 4 bs);
-      first_day = ap (λ k. number (take (body_length k) bs)) k;
-    }
+module _ {s : List ℕ} {room : ℕ} {rest : List ℕ} {n : ℕ} (w : Walked s room rest n) where
+  pub stopped : {r : ℕ} → first_cause (front_causes false n room rest) ≡ some r → days_from false 0 room 0 s ≡ refused r
+  stopped h = w.left ∙ ap (before w.front) (refused_front false n room rest h)
 
-pub ran_out : {s : List ℕ} {room at n : ℕ} → Walked s room at n → length s ≤ at → reading room s ≡ refused 1
-ran_out {s} {room} {at} {n} w h =
-    let q : from s room at n ≡ refused 1 = rw (drop_of_length-le s h) (no_entry (eqb at 0) n room) in
-    reading_is s room (w.left ∙ ap (before w.front) q)
+  -- where no whole entry of days stands, what passes is the end
+  pub finished : none ≡ first_cause (front_causes false n room rest) → (DaysInFront rest → ⊥) → days_from false 0 room 0 s ≡ accepted w.front
+  finished h no_days =
+      let p = passed_front false n room rest (sym h) in
+      let k = end_kind (front rest).kind p.known p.placed (λ d. no_days (record { stating = d; complete = p.complete })) in
+      w.left ∙ ap (before w.front) (end_front false n room rest (sym h) k) ∙ ap accepted (append-nil w.front)
 
-module _ (s : List ℕ) (room at n : ℕ) (w : Walked s room at n) (inside : at < length s) where
-  abbrev e : Entry
-  e = entry_at s at
+  -- over an entry of days
+  module _ {e : Found} {X : Type 0} (step : DaysInFront rest × AtFront rest e × X) where
+    pub kind_here : (misplaced false (some e.kind) ≡ false) × (is_end (some e.kind) ≡ false)
+    kind_here = days_kind (some e.kind) (ap states_days (sym step.1.kind) ∙ step.0.stating)
 
-  at_entry : drop at s ≡ get_or s at 0 ∷ drop (suc at) s
-  at_entry = drop-cons s at 0 inside
+    pub causes_here : first_cause (front_causes false n room rest) ≡ first_cause (whole_causes n room (some e.kind) e.value e.behind.now)
+    causes_here = whole false n room rest e (record { whole = step.1; placed = kind_here.0 })
 
-  pub stopped : {r : ℕ} → first_cause (entry_causes (eqb at 0) n room e) ≡ some r → reading room s ≡ refused r
-  stopped {r} h =
-      let q : from s room at n ≡ refused r = rw at_entry (refused_entry (eqb at 0) n room (get_or s at 0) (drop (suc at) s) h) in
-      reading_is s room (w.left ∙ ap (before w.front) q)
+    pub refused_step : {r : ℕ} → some r ≡ first_cause (whole_causes n room (some e.kind) e.value e.behind.now) → days_from false 0 room 0 s ≡ refused r
+    refused_step h = stopped (causes_here ∙ sym h)
 
-  module _ (no_cause : first_cause (entry_causes (eqb at 0) n room e) ≡ none) where
-    all_passed : Passed (eqb at 0) n room e
-    all_passed = passed (eqb at 0) n room e no_cause
-
-    -- its body lies inside the bytes, and its days fit
-    pub body_inside : at + 1 + body_length e.kind ≤ length s
-    body_inside = omega (arith, all_passed.complete, length-take (body_length e.kind) (drop (suc at) s), length-drop (suc at) s)
-
-    within_limit : n + length (stated_days e) ≤ day_limit
-    within_limit = all_passed.total
-
-    pub within_room : n + length (stated_days e) ≤ room
-    within_room = all_passed.fits
-
-    -- an end entry
-    module _ (end : is_end e.kind ≡ true) where
-      pub end_headed : Headed s
-      end_headed = w.headed (end_later (eqb at 0) e.kind end all_passed.placed)
-
-      pub ended : reading room s ≡ accepted (record { first_day = first_day_of s; days = w.front })
-      ended =
-          let q : from s room at n ≡ accepted [] = rw at_entry (end_entry (eqb at 0) n room (get_or s at 0) (drop (suc at) s) no_cause end) in
-          reading_is s room (w.left ∙ ap (before w.front) q ∙ ap accepted (append-nil w.front))
-
-      pub finished : {f : ℕ} → f ≡ number (take 4 (drop 1 s)) → accepted (record { first_day = f; day_count = n }) ≡ reply_of (reading room s)
-      finished g =
-          sym (ap reply_of ended ∙ ap accepted (λ i. record { first_day = (end_headed.first_day ∙ sym g) i; day_count = w.counted i }))
-
-    -- any other entry
-    module _ (other : is_end e.kind ≡ false) where
-      behind : (l : ℕ) → l ≡ body_length e.kind → e.behind ≡ drop (at + (1 + l)) s
-      behind l h = let q : suc at + l ≡ at + (1 + l) = omega arith in rw (← h) (drop-drop l (suc at) s ∙ ap (λ k. drop k s) q)
-
-      next_here : (l c : ℕ) → l ≡ body_length e.kind → c ≡ length (stated_days e) → from s room at n ≡ before (stated_days e) (from s room (at + (1 + l)) (n + c))
-      next_here l c k m =
-          rw (at_entry, m, ← behind l k, ne_eqb (at + (1 + l)) 0 (λ z. omega arith))
-          (other_entry (eqb at 0) n room (get_or s at 0) (drop (suc at) s) no_cause other)
-
-      headed_here : Headed s
-      headed_here = by_place (eqb at 0) refl
-        where
-          by_place : (t : Bool) → eqb at 0 ≡ t → Headed s
-          by_place false z = w.headed z
-          by_place true z =
-              head_passed s n room (omega arith) (subst (λ k. Passed (eqb k 0) n room (entry_at s k)) (eqb-true at 0 z) all_passed)
-
-      pub turn : {l c : ℕ} → l ≡ body_length e.kind → c ≡ length (stated_days e) → Walked s room (at + (1 + l)) (n + c)
-      turn {l} {c} b m =
-          record {
-            front = w.front ++ stated_days e;
-            counted = omega (arith, w.counted, length-append w.front (stated_days e));
-            left = w.left ∙ ap (before w.front) (next_here l c b m) ∙ before_before w.front (stated_days e) (from s room (at + (1 + l)) (n + c));
-            total = omega (arith, within_limit);
-            fits = omega (arith, within_room);
-            headed = λ _. headed_here;
-          }
-
-      pub turn_front : {l c : ℕ} (b : l ≡ body_length e.kind) (m : c ≡ length (stated_days e)) → (turn b m).front ≡ w.front ++ stated_days e
-      unfolding turn
-      turn_front b m = refl
-
--- a walk over a record that is accepted is stopped by nothing
-module _ (s : List ℕ) (room at n : ℕ) (w : Walked s room at n) (good : is_accepted (reading room s) ≡ true) where
-  pub still_inside : at < length s
-  still_inside = by_place (dec_le (length s) at)
-    where
-      by_place : Dec (length s ≤ at) → at < length s
-      by_place (yes h) = absurd (true≢false (sym good ∙ ap is_accepted (ran_out w h)))
-      by_place (no h) = lt_of_not-le h
-
-  pub still_no_cause : first_cause (entry_causes (eqb at 0) n room (entry_at s at)) ≡ none
-  still_no_cause = by_cause (first_cause (entry_causes (eqb at 0) n room (entry_at s at))) refl
-    where
-      by_cause : (c : Option ℕ) → first_cause (entry_causes (eqb at 0) n room (entry_at s at)) ≡ c → c ≡ none
-      by_cause none h = refl
-      by_cause (some r) h = absurd (true≢false (sym good ∙ ap is_accepted (stopped s room at n w still_inside h)))
+    unfoldable pub next_step : none ≡ first_cause (whole_causes n room (some e.kind) e.value e.behind.now) → {m : ℕ} → (m ≡ n + length (own_days e)) × (m ≤ day_limit) × (m ≤ room) → Walked s room e.behind.now m
+    next_step h {m} (c, t, f) =
+        record {
+          front = w.front ++ own_days e;
+          counted = omega (arith, w.counted, length-append w.front (own_days e));
+          left = w.left ∙ ap (before w.front) (rw c (next_front false n room rest (causes_here ∙ sym h) step.1 kind_here.1)) ∙ before_before w.front (own_days e) (days_from false m room 0 e.behind.now);
+          total = t;
+          fits = f;
+        }

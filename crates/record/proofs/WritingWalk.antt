@@ -1,77 +1,81 @@
 -- The writing walk: the days behind it stand in the list, and the rest is as it was.
 -- Assumes nothing.
-use Prim.Native.Nat.{ℕ, ◌+◌, ◌<◌}
-use mathlib.Core.Path.{◌≡◌, sym, ◌∙◌, ap}
-use mathlib.Core.Bool.{true, false}
-use mathlib.Core.List.{List, [], ◌++◌}
+use Prim.Native.Nat.{ℕ, ◌+◌, ◌-◌, ◌≤◌}
+use mathlib.Core.Path.{◌≡◌, refl, sym, ◌∙◌, ap, ap₂}
+use mathlib.Core.Bool.{true, false, true≢false}
+use mathlib.Core.List.{List, ◌++◌, append_assoc}
+use mathlib.Core.Option.{Option, some, none}
+use native.Mathlib.Nat.{zero-add}
 use native.Mathlib.Omega.{arith}
-use borrow.Author.Tests.{ne_eqb}
-use lib.ListN.{length, drop, length-append, length-drop}
-use lib.Dec.{eqb}
+use borrow.Rule.Slice.PartMut.{put_mid}
+use lib.ListN.{length, take, drop, replicate, length-append, length-take, length-drop, length-replicate}
 use lib.Seq.{take_at, drop-append-add, drop-drop}
-use mathlib.Core.Option.{none}
 use Rattle.numbers.specs.Lists.{stored}
-use Rattle.series.specs.Causes.{first_cause}
-use Rattle.record.specs.Entries.{is_unknown, is_head, is_end, body_length, days_of, value, stated_days, entry_causes}
-use Rattle.record.specs.Call.{first_day_of, reading, read_leaves}
-use Rattle.record.specs.Private.{is_accepted, entry_at}
-use Rattle.record.proofs.EntryOutcomes.{head_first, passed}
-use Rattle.record.proofs.Accepting.{stored_days}
-use Rattle.record.proofs.Walk.{Walked, begin, begin_front, still_inside, still_no_cause, ended, turn, turn_front}
+use Rattle.series.specs.Units.{day_limit}
+use Rattle.series.specs.Causes.{first_cause, by_outcome}
+use Rattle.record.specs.declared.entry.Entry.{Entry as Found}
+use Rattle.record.specs.Entries.{days_of, stated_days}
+use Rattle.record.specs.Call.{days_from}
+use Rattle.record.specs.Private.{front, front_causes, AtFront, DaysInFront, is_accepted}
+use Rattle.record.proofs.Walk.{Walked, begin, own_days, passed_front, stopped, finished, causes_here, next_step}
 
-pub record Written (s list : List ℕ) (at n : ℕ) (days : List ℕ) : Type 0 where
-  pub walk : Walked s (length list) at n
+-- a writing walk, and the list as it has left it so far
+pub record Written (s list : List ℕ) (rest : List ℕ) (n : ℕ) (days : List ℕ) : Type 0 where
+  pub walk : Walked s (length list) rest n
   pub so_far : days ≡ walk.front ++ drop n list
 
-begin_writing : (s list : List ℕ) → Written s list 0 0 list
-begin_writing s list = record { walk = begin s (length list); so_far = rw (begin_front s (length list)) }
+pub begin_writing : (s list : List ℕ) → Written s list s 0 list
+unfolding begin
+begin_writing s list = record { walk = begin s (length list); so_far = refl }
+
+-- a part of the list filled with one day
+pub filled : (days : List ℕ) (from count day : ℕ) {c : ℕ} {part : List ℕ} → c ≡ length (replicate count day) → from + length (replicate count day) ≤ length days
+    → part ≡ replicate (length (take (from + c - from) (drop from days))) day → put_mid from (from + c - from) days part ≡ stored days from (replicate count day)
+filled days from count day {c} h fits p =
+    let k : from + c - from ≡ count = omega (arith, length-replicate count day) in
+    let n : length (take count (drop from days)) ≡ count = omega (arith, length-take count (drop from days), length-drop from days, length-replicate count day) in
+    rw (p, k, n, drop-drop count from days, length-replicate count day, append_assoc)
 
 -- days stored behind those that stand in the list
 stored_next : (front more list : List ℕ) {n c : ℕ} → length front ≡ n → c ≡ length more → stored (front ++ drop n list) n more ≡ front ++ more ++ drop (n + c) list
 stored_next front more list {n} {c} h m =
     rw (take_at front (drop n list) n h, ← m, ← h, drop-append-add front (drop (length front) list) c, drop-drop c (length front) list)
 
-module _ {s list : List ℕ} {at n : ℕ} {days : List ℕ} (w : Written s list at n days) where
-  pub same_length : length days ≡ length list
+module _ {s list rest : List ℕ} {n : ℕ} {days : List ℕ} (w : Written s list rest n days) where
+  same_length : length days ≡ length list
   same_length = omega (arith, ap length w.so_far, length-append w.walk.front (drop n list), length-drop n list, w.walk.counted, w.walk.fits)
 
-  module _ (good : is_accepted (reading (length list) s) ≡ true) where
-    abbrev room : ℕ
-    room = length list
+  module _ (good : is_accepted (days_from false 0 (length list) 0 s) ≡ true) where
+    no_cause : first_cause (front_causes false n (length list) rest) ≡ none
+    no_cause = by_first (first_cause (front_causes false n (length list) rest)) refl
+      where
+        by_first : (c : Option ℕ) → first_cause (front_causes false n (length list) rest) ≡ c → c ≡ none
+        by_first none h = refl
+        by_first (some r) h = absurd (true≢false (sym good ∙ ap is_accepted (stopped w.walk h)))
 
-    inside : at < length s
-    inside = still_inside s room at n w.walk good
-
-    no_cause : first_cause (entry_causes (eqb at 0) n room (entry_at s at)) ≡ none
-    no_cause = still_no_cause s room at n w.walk good
-
-    pub next_writing : {l c : ℕ} {after : List ℕ} → is_end (entry_at s at).kind ≡ false → l ≡ body_length (entry_at s at).kind → c ≡ length (stated_days (entry_at s at))
-        → after ≡ stored days n (stated_days (entry_at s at)) → Written s list (at + (1 + l)) (n + c) after
-    next_writing other b m h =
-        record {
-          walk = turn s room at n w.walk inside no_cause other b m;
-          so_far = rw (turn_front s room at n w.walk inside no_cause other b m) (h ∙ ap (λ d. stored d n (stated_days (entry_at s at))) w.so_far ∙ stored_next w.walk.front (stated_days (entry_at s at)) list w.walk.counted m);
-        }
-
-    pub all_written : is_end (entry_at s at).kind ≡ true → days ≡ read_leaves (reading room s) list
-    all_written end =
+    pub all_written : (DaysInFront rest → ⊥) → days ≡ by_outcome (days_from false 0 (length list) 0 s) (λ _. list) (λ ds. stored list 0 ds)
+    all_written no_days =
         w.so_far
-        ∙ ap (λ k. w.walk.front ++ drop k list) (sym w.walk.counted)
-        ∙ sym (stored_days list (record { first_day = first_day_of s; days = w.walk.front }))
-        ∙ sym (ap (λ o. read_leaves o list) (ended s room at n w.walk inside no_cause end))
+        ∙ sym (ap (λ k. w.walk.front ++ drop k list) (zero-add (length w.walk.front) ∙ w.walk.counted))
+        ∙ sym (ap (λ o. by_outcome o (λ _. list) (λ ds. stored list 0 ds)) (finished w.walk (sym no_cause) no_days))
 
--- behind the head, which states no days
-pub begin_days : (s list : List ℕ) → is_accepted (reading (length list) s) ≡ true → Written s list 5 0 list
-begin_days s list good =
-    let w = begin_writing s list in
-    let k = head_first (entry_at s 0).kind (passed true 0 (length list) (entry_at s 0) (still_no_cause s (length list) 0 0 w.walk good)).placed in
-    let d : [] ≡ stated_days (entry_at s 0) = sym (ap (λ k. days_of k (value (entry_at s 0))) k) in
-    next_writing w good (ap is_end k) (sym (ap body_length k)) (ap length d) (ap (stored list 0) d)
+    module _ {e : Found} {behind : List ℕ} (step : DaysInFront rest × AtFront rest e × (behind ≡ e.behind.now)) where
+      own_are : own_days e ≡ stated_days (front rest)
+      own_are = ap₂ days_of (sym step.1.kind) step.1.value
 
--- a later entry is known, and no head
-pub later_kind : {s list : List ℕ} {at n : ℕ} {days : List ℕ} → Written s list at n days → is_accepted (reading (length list) s) ≡ true → 0 < at
-    → (is_unknown (entry_at s at).kind ≡ false) × (is_head (entry_at s at).kind ≡ false)
-later_kind {s} {list} {at} {n} w good h =
-    let p = passed (eqb at 0) n (length list) (entry_at s at) (still_no_cause s (length list) at n w.walk good) in
-    let z : eqb at 0 ≡ false = ne_eqb at 0 (λ z. omega arith) in
-    (p.known, rw z at p.placed)
+      within_limit : n + length (own_days e) ≤ day_limit
+      within_limit = rw own_are (passed_front false n (length list) rest no_cause).total
+
+      pub room_left : n + length (own_days e) ≤ length days
+      room_left = rw (own_are, same_length) (passed_front false n (length list) rest no_cause).fits
+
+      pub next_written : {c : ℕ} {after : List ℕ} → c ≡ length (own_days e) → after ≡ stored days n (own_days e) → Written s list behind (n + c) after
+      unfolding next_step
+      next_written {c} {after} m h =
+          let g : n + c ≤ length list = omega (arith, room_left, same_length) in
+          let t : n + c ≤ day_limit = omega (arith, within_limit) in
+          rw step.2
+          (record {
+            walk = next_step w.walk step (sym no_cause ∙ causes_here w.walk step) (ap (λ k. n + k) m, t, g);
+            so_far = h ∙ ap (λ d. stored d n (own_days e)) w.so_far ∙ stored_next w.walk.front (own_days e) list w.walk.counted m;
+          })

@@ -4,9 +4,8 @@ use Rattle.std.specs.Prelude.{ℕ, zero, suc, ◌+◌, Bool, true, false, cond, 
 use Rattle.std.proofs.Math.Option.{Option}
 use Rattle.series.specs.Units.{day_of}
 use Rattle.numbers.specs.Lists.{stored}
-use Rattle.series.specs.Causes.{refusal_number, first_cause, by_cause, Outcome, accepted, refused, by_outcome, map_outcome}
-use Rattle.record.specs.declared.Answer.{Answer}
-use Rattle.record.specs.declared.Answer.TheVariants.{Stated as StatedAnswer, Refused}
+use Rattle.series.specs.Causes.{first_cause, by_cause, Outcome, accepted, refused, by_outcome, map_outcome}
+use Rattle.record.specs.declared.Reply.{Reply}
 use Rattle.record.specs.Entries.{Entry, entry_of, kind_of, is_end, body_length, value, stated_days, entry_causes}
 
 -- the first day, as days since 1 January 1900, and the days as they stand in the day list
@@ -41,18 +40,9 @@ first_day_of (b ∷ bs) = value (entry_of b bs)
 unfoldable pub reading : ℕ → List ℕ → Outcome Stated
 reading room bytes = map_outcome (λ ds. record { first_day = first_day_of bytes; days = ds }) (days_from true 0 room 0 bytes)
 
--- the answer's values: the first day, and the number of days
-pub record Reply : Type 0 where
-  pub first_day : ℕ
-  pub day_count : ℕ
-
+-- what an answer has of it: `Reply`, of src/lib.rt, the first day and the number of days
 abbrev pub reply_of : Outcome Stated → Outcome Reply
 reply_of o = map_outcome (λ s. record { first_day = s.first_day; day_count = length s.days }) o
-
--- document 01's number and values of an answer
-abbrev pub outcome_of : Answer → Outcome Reply
-outcome_of (StatedAnswer f n) = accepted (record { first_day = f; day_count = n })
-outcome_of (Refused r) = refused (refusal_number r)
 
 -- the day list afterwards: the stated days from its start, and the rest as it was; after a refusal all as it was
 abbrev pub read_leaves : Outcome Stated → (list : List ℕ) → List ℕ

@@ -1,9 +1,10 @@
 -- An entry of a record (document 01, "The record"): a byte that tells its kind, and the body of that kind; and the causes that refuse it.
 use Rattle.std.specs.Prelude.{ℕ, ◌+◌, ◌*◌, Bool, true, false, cond, not, ◌&&◌, List, [], ◌∷◌, length, take, drop, replicate, ltb, eqb}
+use Rattle.std.proofs.Math.Option.{Option, none, some}
 use Rattle.series.specs.Units.{day_limit, flow_limit, missing_mark, within}
 use Rattle.series.specs.Causes.{Cause, cause}
 use Rattle.record.specs.declared.entry.Kind.{Kind}
-use Rattle.record.specs.declared.entry.Kind.TheVariants.{Head, Flow, MissingDay, MissingDays, End, Unknown}
+use Rattle.record.specs.declared.entry.Kind.TheVariants.{Head, Flow, MissingDay, MissingDays, End}
 
 -- the largest first day, as days since 1 January 1900
 abbrev pub first_day_limit : ℕ
@@ -14,66 +15,60 @@ unfoldable pub number : List ℕ → ℕ
 number [] = 0
 number (b ∷ bs) = b + 256 * number bs
 
--- the kind that a byte names (`Kind`, of src/entry.rt, has a variant for each)
-unfoldable pub kind_of : ℕ → Kind
+-- the kind that a byte names (`Kind`, of src/entry.rt, has a variant for each); any other byte names none
+unfoldable pub kind_of : ℕ → Option Kind
 kind_of b =
-    cond (eqb b 1) Head
-    (cond (eqb b 2) Flow
-    (cond (eqb b 3) MissingDay
-    (cond (eqb b 4) MissingDays
-    (cond (eqb b 9) End
-    Unknown))))
+    cond (eqb b 1) (some Head)
+    (cond (eqb b 2) (some Flow)
+    (cond (eqb b 3) (some MissingDay)
+    (cond (eqb b 4) (some MissingDays)
+    (cond (eqb b 9) (some End)
+    none))))
 
--- and back: the byte of a kind; 0 for what is none
-abbrev pub kind_number : Kind → ℕ
-kind_number Head = 1
-kind_number Flow = 2
-kind_number MissingDay = 3
-kind_number MissingDays = 4
-kind_number End = 9
-kind_number Unknown = 0
+-- tests of what a byte names
+abbrev pub is_unknown : Option Kind → Bool
+is_unknown none = true
+is_unknown (some k) = false
 
--- tests of a kind
-abbrev pub is_unknown : Kind → Bool
-is_unknown k = eqb (kind_number k) 0
+abbrev pub is_head : Option Kind → Bool
+is_head (some Head) = true
+is_head _ = false
 
-abbrev pub is_head : Kind → Bool
-is_head k = eqb (kind_number k) 1
-
-abbrev pub is_end : Kind → Bool
-is_end k = eqb (kind_number k) 9
+abbrev pub is_end : Option Kind → Bool
+is_end (some End) = true
+is_end _ = false
 
 -- how many bytes its body has
-abbrev pub body_length : Kind → ℕ
-body_length Head = 4
-body_length Flow = 4
-body_length MissingDay = 0
-body_length MissingDays = 2
-body_length End = 4
-body_length Unknown = 0
+abbrev pub body_length : Option Kind → ℕ
+body_length (some Head) = 4
+body_length (some Flow) = 4
+body_length (some MissingDay) = 0
+body_length (some MissingDays) = 2
+body_length (some End) = 4
+body_length none = 0
 
 -- the value of its body is outside its range: first day, flow, count of missing days; the end count may be any
--- number, and a kind without a body has no value
-abbrev pub out_of_range : Kind → ℕ → Bool
-out_of_range Head v = not (within 0 first_day_limit v)
-out_of_range Flow v = not (within 0 flow_limit v)
-out_of_range MissingDay v = false
-out_of_range MissingDays v = not (within 1 65535 v)
-out_of_range End v = false
-out_of_range Unknown v = false
+-- number, and a kind without a body has no value, as what is no kind
+abbrev pub out_of_range : Option Kind → ℕ → Bool
+out_of_range (some Head) v = not (within 0 first_day_limit v)
+out_of_range (some Flow) v = not (within 0 flow_limit v)
+out_of_range (some MissingDay) v = false
+out_of_range (some MissingDays) v = not (within 1 65535 v)
+out_of_range (some End) v = false
+out_of_range none v = false
 
 -- the days that it states, as they stand in the day list
-abbrev pub days_of : Kind → ℕ → List ℕ
-days_of Head v = []
-days_of Flow v = v ∷ []
-days_of MissingDay v = missing_mark ∷ []
-days_of MissingDays v = replicate v missing_mark
-days_of End v = []
-days_of Unknown v = []
+abbrev pub days_of : Option Kind → ℕ → List ℕ
+days_of (some Head) v = []
+days_of (some Flow) v = v ∷ []
+days_of (some MissingDay) v = missing_mark ∷ []
+days_of (some MissingDays) v = replicate v missing_mark
+days_of (some End) v = []
+days_of none v = []
 
 -- What stands at the front of bytes: a kind, its body (cut short where the bytes end inside it), and the bytes behind it.
 pub record Entry : Type 0 where
-  pub kind : Kind
+  pub kind : Option Kind
   pub body : List ℕ
   pub behind : List ℕ
 
@@ -89,7 +84,7 @@ abbrev pub stated_days : Entry → List ℕ
 stated_days e = days_of e.kind (value e)
 
 -- a first entry that is not a head, or a later one that is
-abbrev pub misplaced : Bool → Kind → Bool
+abbrev pub misplaced : Bool → Option Kind → Bool
 misplaced true k = not (is_head k)
 misplaced false k = is_head k
 
@@ -101,8 +96,8 @@ entry_causes first n room e =
     ∷ cause (misplaced first e.kind) 3
     ∷ cause (ltb (length e.body) (body_length e.kind)) 1
     ∷ cause (out_of_range e.kind (value e)) 4
-    ∷ cause (ltb day_limit (n + length (stated_days e))) 5
-    ∷ cause (ltb room (n + length (stated_days e))) 6
+    ∷ cause (ltb day_limit (n + length (days_of e.kind (value e)))) 5
+    ∷ cause (ltb room (n + length (days_of e.kind (value e)))) 6
     ∷ cause (is_end e.kind && not (eqb (value e) n)) 7
     ∷ cause (is_end e.kind && ltb 0 (length e.behind)) 8
     ∷ []

@@ -1,31 +1,68 @@
 -- What the private functions promise. None of this stands in the promise of `read`.
-use Rattle.std.specs.Prelude.{ℕ, suc, ◌+◌, ◌≤◌, ◌≡◌, Bool, true, false, ◌&&◌, List, length, get_or, drop, leb}
-use Rattle.series.specs.Causes.{Outcome, accepted, refused}
+use Rattle.std.specs.Prelude.{ℕ, ◌+◌, ◌≤◌, ◌≡◌, Bool, true, false, not, ◌&&◌, ltb, eqb, List, [], ◌∷◌, length, take, drop, Option as Perhaps, MatchOption}
+use Rattle.std.proofs.Math.Option.{Option, some, none}
+use Rattle.series.specs.Units.{day_limit}
+use Rattle.series.specs.Causes.{Cause, cause, Outcome, accepted, refused}
 use Rattle.record.specs.declared.entry.Kind.{Kind}
-use Rattle.record.specs.Entries.{Entry, entry_of, kind_number, body_length, out_of_range, value, stated_days}
+use Rattle.record.specs.declared.entry.Kind.TheVariants.{Flow, MissingDay, MissingDays}
+use Rattle.record.specs.declared.entry.Entry.{Entry as Found}
+use Rattle.record.specs.Entries.{Entry, entry_of, number, body_length, misplaced, value, entry_causes, out_of_range, days_of, is_end}
 
--- the entry at a position of the bytes
-abbrev pub entry_at : List ℕ → ℕ → Entry
-entry_at bytes at = entry_of (get_or bytes at 0) (drop (suc at) bytes)
+-- the entry at the front of bytes; where there are none, one of no kind
+abbrev pub front : List ℕ → Entry
+front [] = record { kind = none; body = []; behind = [] }
+front (b ∷ bs) = entry_of b bs
+
+-- the causes that refuse what stands at the front of bytes: no entry, or the entry's own
+abbrev pub front_causes : Bool → ℕ → ℕ → List ℕ → List Cause
+front_causes first n room [] = cause true 1 ∷ []
+front_causes first n room (b ∷ bs) = entry_causes first n room (entry_of b bs)
+
+-- the last five causes of an entry (`entry_causes`), of one that is whole, by its kind, its value and the bytes behind it
+abbrev pub whole_causes : (n room : ℕ) → Option Kind → ℕ → List ℕ → List Cause
+whole_causes n room k v behind =
+    cause (out_of_range k v) 4
+    ∷ cause (ltb day_limit (n + length (days_of k v))) 5
+    ∷ cause (ltb room (n + length (days_of k v))) 6
+    ∷ cause (is_end k && not (eqb v n)) 7
+    ∷ cause (is_end k && ltb 0 (length behind)) 8
+    ∷ []
+
+-- an entry that the code found is of a kind, and its body comes first in bytes
+pub record OfKind (k : Kind) (bytes : List ℕ) (e : Found) : Type 0 where
+  pub kind : e.kind ≡ k
+  pub complete : body_length (some k) ≤ length bytes
+  pub value : e.value ≡ number (take (body_length (some k)) bytes)
+  pub behind : e.behind.now ≡ drop (body_length (some k)) bytes
+
+-- an entry that the code found is the one at the front of bytes, and whole
+pub record AtFront (bytes : List ℕ) (e : Found) : Type 0 where
+  pub kind : (front bytes).kind ≡ some e.kind
+  pub complete : body_length (front bytes).kind ≤ length (front bytes).body
+  pub value : e.value ≡ value (front bytes)
+  pub behind : e.behind.now ≡ (front bytes).behind
+
+-- and in its place
+pub record Placed (first : Bool) (bytes : List ℕ) (e : Found) : Type 0 where
+  pub whole : AtFront bytes e
+  pub placed : misplaced first (some e.kind) ≡ false
+
+-- the kinds that state days
+abbrev pub states_days : Option Kind → Bool
+states_days (some Flow) = true
+states_days (some MissingDay) = true
+states_days (some MissingDays) = true
+states_days _ = false
+
+-- a whole entry of days stands at the front of bytes
+pub record DaysInFront (bytes : List ℕ) : Type 0 where
+  pub stating : states_days (front bytes).kind ≡ true
+  pub complete : body_length (front bytes).kind ≤ length (front bytes).body
+
+-- the entries of days, one by one: the one in front and the bytes behind it, or none where no such entry stands there
+abbrev pub NextEntry : List ℕ → Perhaps Found → List ℕ → Type 0
+NextEntry bytes r after = MatchOption r (DaysInFront bytes → ⊥) (λ e. DaysInFront bytes × AtFront bytes e × (after ≡ e.behind.now))
 
 abbrev pub is_accepted : {A : Type 0} → Outcome A → Bool
 is_accepted (accepted a) = true
 is_accepted (refused n) = false
-
--- the kinds that state days
-abbrev pub states_days : Kind → Bool
-states_days k = leb 2 (kind_number k) && leb (kind_number k) 4
-
--- an entry of days at a position behind n days that passes: complete, its value in range, its days within the space
-pub record PassedDays (bytes : List ℕ) (at n space : ℕ) : Type 0 where
-  pub stating : states_days (entry_at bytes at).kind ≡ true
-  pub complete : at + 1 + body_length (entry_at bytes at).kind ≤ length bytes
-  pub in_range : out_of_range (entry_at bytes at).kind (value (entry_at bytes at)) ≡ false
-  pub fits : n + length (stated_days (entry_at bytes at)) ≤ space
-
--- a step over such an entry, by its bytes and its days; of no bytes only where there is none
-pub record Stepped (bytes : List ℕ) (at n space size days : ℕ) : Type 0 where
-  pub over : (size ≡ 0 → ⊥) → PassedDays bytes at n space
-  pub bytes_taken : (size ≡ 0 → ⊥) → size ≡ 1 + body_length (entry_at bytes at).kind
-  pub days_stated : (size ≡ 0 → ⊥) → days ≡ length (stated_days (entry_at bytes at))
-  pub ends : size ≡ 0 → PassedDays bytes at n space → ⊥

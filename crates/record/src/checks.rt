@@ -1,140 +1,86 @@
 // The checking walk: entry by entry, in document 01's order.
-ghost use Rattle.std.specs.Prelude.{◌≡◌, true, ◌&&◌, ◌≤◌, ◌<◌, length, get_or, eqb};
-ghost use Rattle.std.proofs.Math.Option.{none};
+ghost use Rattle.std.specs.Prelude.{ℕ, ◌≡◌, ◌+◌, false, ◌≤◌, length, IfOk, MatchResult};
 ghost use Rattle.series.specs.Units.{day_limit};
-ghost use Rattle.series.specs.Causes.{first_cause, Decides};
-ghost use Rattle.record.specs.Entries.{kind_of, misplaced, entry_causes};
-ghost use Rattle.record.specs.Call.{reading, outcome_of, reply_of};
-ghost use Rattle.record.specs.Private.{entry_at, states_days, Stepped};
+ghost use Rattle.series.specs.Causes.{refusal_number, refusal_of, outcome_of, first_cause, map_outcome};
+ghost use Rattle.std.proofs.Math.Option.{some};
+ghost use Rattle.record.specs.Entries.{misplaced, days_of};
+ghost use Rattle.record.specs.Call.{days_from};
+ghost use Rattle.record.specs.Private.{front_causes, Placed, whole_causes};
 
-use crate::Answer;
-use crate::entry::{END, HEAD, Kind, UNKNOWN, four_bytes, value_at};
-use series::{DAY_LIMIT, Refusal, Verdict, refuse_if};
+use crate::entry::{Entries, Entry, Kind};
+use series::{DAY_LIMIT, Refusal, refuse_if};
 
 // Whether an entry is out of its place: a first one that is not a head, or a later one that is.
+// Kept: `first`, a test's outcome, as the definitions have it.
 fn is_misplaced(kind: Kind, first: bool) -> bool
-    ensures { result ≡ misplaced first kind }
+    ensures { result ≡ misplaced first (some kind) }
 {
-    if first {
-        return !kind.is(HEAD);
-    }
-    kind.is(HEAD)
+    (kind == Kind::Head) != first
 }
 
-fn both(a: bool, b: bool) -> bool
-    ensures { result ≡ (a && b) }
+// The entry at the front of `bytes`, with the checks that come first: kind, place, body complete.
+#[tactic(auto, using(crate::proofs::Fronts::unknown, crate::proofs::Fronts::out_of_place, crate::proofs::Fronts::cut_short))]
+fn entry_in_place(bytes: &[u8], first: bool) -> Result<Entry<'_>, Refusal>
+    ensures { MatchResult result (λ entry. Placed first bytes.now entry) (λ e. (n room : ℕ) → first_cause (front_causes first n room bytes.now) ≡ some (refusal_number e)) }
 {
-    a && b
+    let (byte, body) = bytes.split_first().ok_or(Refusal::Truncated)?;
+    let kind = Kind::try_from(*byte)?;
+    if is_misplaced(kind, first) {
+        return Err(Refusal::MisplacedHead);
+    }
+    Entry::of_kind(kind, body).ok_or(Refusal::Truncated)
 }
 
-// The checks of the entry at `at`, behind `counted` days, for a list of `room` days: kind, place, body complete; and, of
-// one that is complete, value, total days, list space, and for an end entry then its count and what lies behind it.
-fn check_entry(bytes: &[u8], at: usize, counted: usize, room: usize) -> Verdict
-    requires { (at < length bytes.now) × (counted ≤ day_limit) × (counted ≤ room) }
-    ensures { Decides (entry_causes (eqb at 0) counted room (entry_at bytes.now at)) result }
+// The checks of a whole entry behind `counted` days, for a list of `room` days: value, total days, list space, and of an
+// end entry then its count and what lies behind it. Gives the days counted with its own.
+fn count_on(entry: Entry<'_>, counted: usize, room: usize) -> Result<usize, Refusal>
+    requires { (counted ≤ day_limit) × (counted ≤ room) }
+    ensures causes { refusal_of result ≡ first_cause (whole_causes counted room (some entry.entry.kind) entry.entry.value entry.entry.behind.now) }
+    ensures counted { IfOk result (λ n. (n ≡ counted + length (days_of (some entry.entry.kind) entry.entry.value)) × (n ≤ day_limit) × (n ≤ room)) }
 {
-    let v = Verdict::Accepted;
-    let kind = Kind::of(bytes[at]);
-    let next = at + 1 + kind.body_length();
-    let v = refuse_if(v, kind.is(UNKNOWN), Refusal::UnknownKind);
-    let v = refuse_if(v, is_misplaced(kind, at == 0), Refusal::MisplacedHead);
-    let v = refuse_if(v, bytes.len() < next, Refusal::Truncated);
-    if let Verdict::Refused(refusal) = v {
-        return Verdict::Refused(refusal);
-    }
-    let value = value_at(bytes, at + 1, kind);
-    let added = kind.day_count(value);
-    let end = kind.is(END);
-    let wrong = value as usize != counted;
-    let v = refuse_if(v, kind.is_out_of_range(value), Refusal::ValueOutOfRange);
-    let v = refuse_if(v, DAY_LIMIT - counted < added, Refusal::TooManyDays);
-    let v = refuse_if(v, room - counted < added, Refusal::DayListTooShort);
-    let v = refuse_if(v, both(end, wrong), Refusal::WrongEndCount);
-    refuse_if(v, both(end, next < bytes.len()), Refusal::BytesAfterEnd)
+    let with_own = counted + entry.day_count();
+    let end = entry.kind == Kind::End;
+    let wrong_count = entry.value as usize != counted;
+    refuse_if(entry.is_out_of_range(), Refusal::ValueOutOfRange)?;
+    refuse_if(DAY_LIMIT < with_own, Refusal::TooManyDays)?;
+    refuse_if(room < with_own, Refusal::DayListTooShort)?;
+    refuse_if(end && wrong_count, Refusal::WrongEndCount)?;
+    refuse_if(end && !entry.behind.is_empty(), Refusal::BytesAfterEnd)?;
+    Ok(with_own)
 }
 
-// A step of the checking walk: the bytes of an entry of days that passes, and its days; no bytes where the walk ends.
-#[derive(Clone, Copy)]
-struct Step {
-    size: usize,
-    days: usize,
+// The checks of the entry at the front of `bytes`, behind `counted` days, for a list of `room` days. (Not inlined: the
+// walk's loop stays short.)
+#[inline(never)]
+#[tactic(auto, using(crate::proofs::Fronts::whole))]
+pub(crate) fn check_entry(
+    bytes: &[u8],
+    first: bool,
+    counted: usize,
+    room: usize,
+) -> Result<Entry<'_>, Refusal>
+    requires { (counted ≤ day_limit) × (counted ≤ room) }
+    ensures causes { refusal_of result ≡ first_cause (front_causes first counted room bytes.now) }
+    ensures found { IfOk result (λ entry. Placed first bytes.now entry) }
+{
+    let entry = entry_in_place(bytes, first)?;
+    count_on(entry, counted, room)?;
+    Ok(entry)
 }
 
-// The step over the entry of days at `at`, behind `counted` of `space` days.
-fn step_over(bytes: &[u8], at: usize, kind: Kind, counted: usize, space: usize) -> Step
-    requires at_in_bounds { (at < length bytes.now) × (counted ≤ space) }
-    requires kind_value { (kind ≡ kind_of (get_or bytes.now at 0)) × (states_days kind ≡ true) }
-    ensures { Stepped bytes.now at counted space result.size result.days }
+// Checks the bytes behind a head, for a list of `room` days, and counts their days. (Not inlined: each walk has the
+// registers to itself.)
+#[inline(never)]
+pub(crate) fn check_days(bytes: &[u8], room: usize) -> Result<u32, Refusal>
+    ensures { outcome_of result ≡ map_outcome length (days_from false 0 room 0 bytes.now) }
 {
-    let size = 1 + kind.body_length();
-    if bytes.len() - at < size {
-        return Step { size: 0, days: 0 };
-    }
-    let value = value_at(bytes, at + 1, kind);
-    if kind.is_out_of_range(value) {
-        return Step { size: 0, days: 0 };
-    }
-    let days = kind.day_count(value);
-    if space - counted < days {
-        return Step { size: 0, days: 0 };
-    }
-    Step { size, days }
-}
-
-// The next step, flows first: each kind has a path of its own.
-fn next_step(bytes: &[u8], at: usize, counted: usize, space: usize) -> Step
-    requires { (at < length bytes.now) × (counted ≤ space) }
-    ensures { Stepped bytes.now at counted space result.size result.days }
-{
-    let byte = bytes[at];
-    if byte == 2 {
-        return step_over(bytes, at, Kind::Flow, counted, space);
-    }
-    if byte == 3 {
-        return step_over(bytes, at, Kind::MissingDay, counted, space);
-    }
-    if byte == 4 {
-        return step_over(bytes, at, Kind::MissingDays, counted, space);
-    }
-    Step { size: 0, days: 0 }
-}
-
-// Checks a record behind its head and counts its days.
-fn check_days(bytes: &[u8], room: usize) -> Answer
-    requires { (0 < length bytes.now) × (first_cause (entry_causes true 0 room (entry_at bytes.now 0)) ≡ none) }
-    ensures { outcome_of result ≡ reply_of (reading room bytes.now) }
-{
-    let space = numbers::least(room, DAY_LIMIT);
-    let mut at = 5;
+    let mut rest = bytes;
     let mut counted = 0;
-    while at < bytes.len() {
-        let step = next_step(bytes, at, counted, space);
-        if step.size == 0 {
-            if let Verdict::Refused(refusal) = check_entry(bytes, at, counted, room) {
-                return Answer::Refused(refusal);
-            }
-            let first_day = four_bytes(bytes, 1);
-            let day_count = counted as u32;
-            return Answer::Stated {
-                first_day,
-                day_count,
-            };
-        }
-        counted += step.days;
-        at += step.size;
+    for entry in Entries(bytes) {
+        counted = count_on(entry, counted, room)?;
+        rest = entry.behind;
     }
-    Answer::Refused(Refusal::Truncated)
-}
-
-// Checks a whole record and counts its days.
-pub(crate) fn check(bytes: &[u8], room: usize) -> Answer
-    ensures { outcome_of result ≡ reply_of (reading room bytes.now) }
-{
-    if bytes.len() == 0 {
-        return Answer::Refused(Refusal::Truncated);
-    }
-    if let Verdict::Refused(refusal) = check_entry(bytes, 0, 0, room) {
-        return Answer::Refused(refusal);
-    }
-    check_days(bytes, room)
+    // What is left begins with no whole entry of days: it is refused, or it is the end.
+    check_entry(rest, false, counted, room)?;
+    Ok(counted as u32)
 }

@@ -1,22 +1,21 @@
-// The entries of a record: a byte that tells the kind, and its body. Numbers are joined directly from the caller's bytes.
-ghost use Rattle.std.specs.Prelude.{◌≡◌, false, ◌+◌, ◌≤◌, ◌<◌, length, take, drop, eqb};
-ghost use Rattle.record.specs.Entries.{number, kind_of, kind_number, is_unknown, is_head, body_length, out_of_range, days_of};
+// The entries of a record: a byte that tells the kind, and its body. Numbers are read from the caller's bytes, where they
+// stand.
+ghost use Rattle.std.specs.Prelude.{◌≡◌, ◌<◌, ◌≤◌, length, take, drop, MatchOption, MatchResult};
+ghost use Rattle.std.specs.Iterator.{at_most};
+ghost use Rattle.std.proofs.Math.Option.{some, none};
+ghost use Rattle.series.specs.declared.Refusal.TheVariants.{UnknownKind};
+ghost use Rattle.record.specs.Entries.{kind_of, body_length, out_of_range, days_of};
+ghost use Rattle.record.specs.Private.{OfKind, NextEntry};
 
-use series::FLOW_LIMIT;
+use series::{FLOW_LIMIT, Refusal};
 
 // The largest first day, as days since 1 January 1900.
 const FIRST_DAY_LIMIT: u32 = 99_999;
 // The most missing days of one entry.
 const GAP_LIMIT: u32 = 65_535;
-// The bytes of a head, of an end, and for what is no kind.
-pub(crate) const HEAD: u8 = 1;
-
-pub(crate) const END: u8 = 9;
-
-pub(crate) const UNKNOWN: u8 = 0;
 
 // The kinds of entry, in document 01's order.
-#[derive(Clone, Copy)]
+#[derive(Clone, Copy, Debug, PartialEq, Eq)]
 pub(crate) enum Kind {
     // 01: the first day
     Head,
@@ -28,146 +27,106 @@ pub(crate) enum Kind {
     MissingDays,
     // 09: the number of days
     End,
-    // any other byte
-    Unknown,
 }
 
-impl Kind {
-    // The kind that a byte names.
-    pub(crate) fn of(byte: u8) -> Kind
-        ensures { result ≡ kind_of byte }
-    {
+// The kind that a byte names.
+impl TryFrom<u8> for Kind {
+    type Error = Refusal;
+
+    ghost try_from_gives = { λ byte r. MatchResult r (λ kind. kind_of byte ≡ some kind) (λ e. (kind_of byte ≡ none) × (e ≡ UnknownKind)) };
+
+    #[tactic(auto, unfolding(crate::specs::Entries::kind_of))]
+    fn try_from(byte: u8) -> Result<Kind, Refusal> {
         match byte {
-            1 => Kind::Head,
-            2 => Kind::Flow,
-            3 => Kind::MissingDay,
-            4 => Kind::MissingDays,
-            9 => Kind::End,
-            _ => Kind::Unknown,
-        }
-    }
-
-    // The kind that a byte names where no head and no unknown kind can stand: three tests, and no jump table.
-    pub(crate) fn behind_head(byte: u8) -> Kind
-        requires { (is_unknown (kind_of byte) ≡ false) × (is_head (kind_of byte) ≡ false) }
-        ensures { result ≡ kind_of byte }
-    {
-        if byte == 2 {
-            return Kind::Flow;
-        }
-        if byte == 3 {
-            return Kind::MissingDay;
-        }
-        if byte == 4 {
-            return Kind::MissingDays;
-        }
-        Kind::End
-    }
-
-    // The byte that names it; 0 for what is no kind.
-    fn number(self) -> u8
-        ensures { result ≡ kind_number self }
-    {
-        match self {
-            Kind::Head => 1,
-            Kind::Flow => 2,
-            Kind::MissingDay => 3,
-            Kind::MissingDays => 4,
-            Kind::End => 9,
-            Kind::Unknown => 0,
-        }
-    }
-
-    // It is the kind of a byte, such as HEAD.
-    pub(crate) fn is(self, byte: u8) -> bool
-        ensures { result ≡ eqb (kind_number self) byte }
-    {
-        self.number() == byte
-    }
-
-    // How many bytes its body has.
-    pub(crate) fn body_length(self) -> usize
-        ensures { (result ≡ body_length self) × (result ≤ 4) }
-    {
-        match self {
-            Kind::Head => 4,
-            Kind::Flow => 4,
-            Kind::MissingDay => 0,
-            Kind::MissingDays => 2,
-            Kind::End => 4,
-            Kind::Unknown => 0,
-        }
-    }
-
-    // The value of its body is outside its range: first day, flow, count of missing days.
-    pub(crate) fn is_out_of_range(self, value: u32) -> bool
-        ensures { result ≡ out_of_range self value }
-    {
-        match self {
-            Kind::Head => !series::within(0, FIRST_DAY_LIMIT, value),
-            Kind::Flow => !series::within(0, FLOW_LIMIT, value),
-            Kind::MissingDay => false,
-            Kind::MissingDays => !series::within(1, GAP_LIMIT, value),
-            Kind::End => false,
-            Kind::Unknown => false,
-        }
-    }
-
-    // How many days it states, by the value of its body.
-    pub(crate) fn day_count(self, value: u32) -> usize
-        ensures { result ≡ length (days_of self value) }
-    {
-        match self {
-            Kind::Head => 0,
-            Kind::Flow => 1,
-            Kind::MissingDay => 1,
-            Kind::MissingDays => value as usize,
-            Kind::End => 0,
-            Kind::Unknown => 0,
+            1 => Ok(Kind::Head),
+            2 => Ok(Kind::Flow),
+            3 => Ok(Kind::MissingDay),
+            4 => Ok(Kind::MissingDays),
+            9 => Ok(Kind::End),
+            _ => Err(Refusal::UnknownKind),
         }
     }
 }
 
-// A byte as a number.
-fn wide(byte: u8) -> u32
-    ensures { (result ≡ byte) × (result < 256) }
-{
-    byte as u32
+// An entry: its kind, the value of its body (0 where it has none), and the bytes behind it.
+#[derive(Clone, Copy)]
+// Kept: kind and value side by side, 0 where a kind has no body, as document 01's entry and its definition have them.
+pub(crate) struct Entry<'a> {
+    pub(crate) kind: Kind,
+    pub(crate) value: u32,
+    pub(crate) behind: &'a [u8],
 }
 
-// The number of the two bytes at `at`, low byte first.
-fn two_bytes(bytes: &[u8], at: usize) -> u32
-    requires { at + 2 ≤ length bytes.now }
-    ensures { result ≡ number (take 2 (drop at bytes.now)) }
-{
-    let low = wide(bytes[at]);
-    let high = wide(bytes[at + 1]);
-    low + 256 * high
+impl<'a> Entry<'a> {
+    // The entry of a kind whose body comes first in `bytes`, the lowest byte of its number first; none where they end
+    // within the body.
+    #[tactic(auto, using(crate::proofs::Bytes::two_read, crate::proofs::Bytes::four_read), unfolding(crate::specs::Entries::number))]
+    pub(crate) fn of_kind(kind: Kind, bytes: &'a [u8]) -> Option<Entry<'a>>
+        ensures { MatchOption result (length bytes.now < body_length (some kind)) (λ entry. OfKind kind bytes.now entry) }
+    {
+        let (value, behind) = match kind {
+            Kind::MissingDay => (0, bytes),
+            Kind::MissingDays => {
+                let (body, behind) = bytes.split_first_chunk::<2>()?;
+                (u32::from(u16::from_le_bytes(*body)), behind)
+            }
+            Kind::Head | Kind::Flow | Kind::End => {
+                let (body, behind) = bytes.split_first_chunk::<4>()?;
+                (u32::from_le_bytes(*body), behind)
+            }
+        };
+        Some(Entry {
+            kind,
+            value,
+            behind,
+        })
+    }
+
+    // Its value is outside the range of its kind: first day, flow, count of missing days.
+    #[tactic(auto, unfolding(series::specs::Units::within))]
+    pub(crate) fn is_out_of_range(self) -> bool
+        ensures { result ≡ out_of_range (some self.entry.kind) self.entry.value }
+    {
+        match self.kind {
+            Kind::Head => !(0..=FIRST_DAY_LIMIT).contains(&self.value),
+            Kind::Flow => !(0..=FLOW_LIMIT).contains(&self.value),
+            Kind::MissingDays => !(1..=GAP_LIMIT).contains(&self.value),
+            Kind::MissingDay | Kind::End => false,
+        }
+    }
+
+    // How many days it states.
+    pub(crate) fn day_count(self) -> usize
+        ensures { result ≡ length (days_of (some self.entry.kind) self.entry.value) }
+    {
+        match self.kind {
+            Kind::Flow | Kind::MissingDay => 1,
+            // Kept: `as`, here as in checks.rt, since std has no From between u32 and usize, and TryFrom would add an error that never comes.
+            Kind::MissingDays => self.value as usize,
+            Kind::Head | Kind::End => 0,
+        }
+    }
 }
 
-// The number of the four bytes at `at`, low byte first.
-pub(crate) fn four_bytes(bytes: &[u8], at: usize) -> u32
-    requires { at + 4 ≤ length bytes.now }
-    ensures { result ≡ number (take 4 (drop at bytes.now)) }
-{
-    let a = wide(bytes[at]);
-    let b = wide(bytes[at + 1]);
-    let c = wide(bytes[at + 2]);
-    let d = wide(bytes[at + 3]);
-    a + 256 * b + 65_536 * c + 16_777_216 * d
-}
+// The entries of days at the front of bytes, up to what is no whole one.
+#[derive(Drop)]
+pub(crate) struct Entries<'a>(pub(crate) &'a [u8]);
 
-// The number of a body that starts at `at`, by its kind.
-pub(crate) fn value_at(bytes: &[u8], at: usize, kind: Kind) -> u32
-    requires { at + body_length kind ≤ length bytes.now }
-    ensures { result ≡ number (take (body_length kind) (drop at bytes.now)) }
-{
-    match kind {
-        Kind::Head => four_bytes(bytes, at),
-        Kind::Flow => four_bytes(bytes, at),
-        Kind::MissingDay => 0,
-        Kind::MissingDays => two_bytes(bytes, at),
-        Kind::End => four_bytes(bytes, at),
-        Kind::Unknown => 0,
+impl<'a> Iterator for Entries<'a> {
+    type Item = Entry<'a>;
+
+    ghost next_gives = { λ s r t. NextEntry s.0.now r t.0.now };
+
+    ghost remaining = { λ s. at_most (length s.0.now) };
+
+    fn next(&mut self) -> Option<Entry<'a>> {
+        let (byte, body) = self.0.split_first()?;
+        let kind = Kind::try_from(*byte).ok()?;
+        if matches!(kind, Kind::Head | Kind::End) {
+            return None;
+        }
+        let entry = Entry::of_kind(kind, body)?;
+        self.0 = entry.behind;
+        Some(entry)
     }
 }

@@ -1,62 +1,28 @@
 // The writing walk, over a record that has passed.
-ghost use Rattle.std.specs.Prelude.{◌≡◌, true, ◌+◌, ◌≤◌, length, replicate};
+ghost use Rattle.std.specs.Prelude.{◌≡◌, true, false, length};
 ghost use Rattle.numbers.specs.Lists.{stored};
-ghost use Rattle.series.specs.Units.{missing_mark};
-ghost use Rattle.record.specs.Entries.{days_of};
-ghost use Rattle.record.specs.Call.{reading, read_leaves};
+ghost use Rattle.series.specs.Causes.{by_outcome};
+ghost use Rattle.record.specs.Call.{days_from};
 ghost use Rattle.record.specs.Private.{is_accepted};
 
-use crate::entry::{END, Kind, value_at};
+use crate::entry::{Entries, Kind};
 use series::MISSING;
 
-// Stores missing days from position `from` on.
-fn put_missing(days: &mut [u32], from: usize, count: usize)
-    requires { from + count ≤ length days.old }
-    ensures { days.new ≡ stored days.old from (replicate count missing_mark) }
-{
-    let mut i = 0;
-    while i < count {
-        days[from + i] = MISSING;
-        i += 1;
-    }
-}
-
-// Stores the days of an entry from position `from` on.
-fn put(days: &mut [u32], from: usize, kind: Kind, value: u32)
-    requires { from + length (days_of kind value) ≤ length days.old }
-    ensures { days.new ≡ stored days.old from (days_of kind value) }
-{
-    match kind {
-        Kind::Flow => {
-            days[from] = value;
-        }
-        Kind::MissingDay => {
-            days[from] = MISSING;
-        }
-        Kind::MissingDays => {
-            put_missing(days, from, value as usize);
-        }
-        Kind::Head => {}
-        Kind::End => {}
-        Kind::Unknown => {}
-    }
-}
-
-// Stores the days of a record from the list's start on. They stand behind its head.
+// Stores the days of the bytes behind a head from the list's start on. (Not inlined: each walk has the registers to itself.)
+#[inline(never)]
 pub(crate) fn write_days(bytes: &[u8], days: &mut [u32])
-    requires { is_accepted (reading (length days.old) bytes.now) ≡ true }
-    ensures { days.new ≡ read_leaves (reading (length days.old) bytes.now) days.old }
+    requires { is_accepted (days_from false 0 (length days.old) 0 bytes.now) ≡ true }
+    ensures { days.new ≡ by_outcome (days_from false 0 (length days.old) 0 bytes.now) (λ _. days.old) (λ ds. stored days.old 0 ds) }
 {
-    let mut at = 5;
     let mut counted = 0;
-    loop {
-        let kind = Kind::behind_head(bytes[at]);
-        if kind.is(END) {
-            return;
+    for entry in Entries(bytes) {
+        let end = counted + entry.day_count();
+        match entry.kind {
+            Kind::Flow => days[counted] = entry.value,
+            Kind::MissingDay => days[counted] = MISSING,
+            Kind::MissingDays => days[counted..end].fill(MISSING),
+            Kind::Head | Kind::End => {}
         }
-        let value = value_at(bytes, at + 1, kind);
-        put(days, counted, kind, value);
-        counted += kind.day_count(value);
-        at += 1 + kind.body_length();
+        counted = end;
     }
 }

@@ -1,45 +1,54 @@
 // Numbers as decimal digits, the most significant first.
-ghost use Rattle.std.specs.Prelude.{◌≡◌, ◌++◌, ◌<◌};
-ghost use Rattle.report.specs.Decimal.{characters, digit as decimal_digit, decimal as decimal_decimal, last_digits};
-ghost use Rattle.report.specs.Private.{page, Writes};
+// Kept: written by recursion and not by Display, since document 01 names this form.
+ghost use Rattle.std.specs.Prelude.{◌≡◌, ◌^◌, ◌<◌};
+ghost use Rattle.report.specs.Decimal.{digit as decimal_digit, decimal as decimal_decimal, last_digits, fixed_point};
+ghost use Rattle.report.specs.Private.{Writes};
 
-use crate::page::{put, put_text};
+use crate::page::Page;
 
 // The character of a digit.
 fn digit(d: u64) -> u8
     requires { d < 10 }
     ensures { result ≡ decimal_digit d }
 {
-    48 + d as u8
+    // Kept: `as`, since the digit's proof shows that it fits a byte.
+    b'0' + d as u8
 }
 
-// A number: the digits of the number divided by ten, and then the last.
-pub(crate) fn decimal(text: &mut [u8], at: usize, number: u64) -> usize
-    ensures { Writes (decimal_decimal number) (page text.old at) (page text.new result) }
-{
-    if number < 10 {
-        return put(text, at, digit(number));
+#[tactic(auto, using(crate::proofs::Paging::append_text))]
+impl Page<'_> {
+    // A number: the digits of the number divided by ten, and then the last.
+    #[tactic(auto, using(crate::proofs::Paging::append_text, crate::proofs::Numerals::decimal_below, crate::proofs::Numerals::decimal_more))]
+    pub(crate) fn put_decimal(&mut self, number: u64)
+        ensures { Writes (decimal_decimal number) self.old self.new }
+    {
+        if number < 10 {
+            self.put(digit(number));
+        } else {
+            let last = digit(number % 10);
+            self.put_decimal(number / 10);
+            self.put(last);
+        }
     }
-    let last = decimal(text, at, number / 10);
-    put(text, last, digit(number % 10))
-}
 
-// The last digits of a number, as many as asked, leading zeros kept.
-fn last_digits(text: &mut [u8], at: usize, count: u64, number: u64) -> usize
-    ensures { Writes (last_digits count number) (page text.old at) (page text.new result) }
-{
-    if count == 0 {
-        return at;
+    // The last digits of a number, as many as asked, leading zeros kept.
+    #[tactic(auto, using(crate::proofs::Paging::append_text, crate::proofs::Paging::no_text, crate::proofs::Numerals::last_none, crate::proofs::Numerals::last_more))]
+    fn put_last_digits(&mut self, count: u32, number: u64)
+        ensures { Writes (last_digits count number) self.old self.new }
+    {
+        if count > 0 {
+            self.put_last_digits(count - 1, number / 10);
+            self.put(digit(number % 10));
+        }
     }
-    let end = last_digits(text, at, count - 1, number / 10);
-    put(text, end, digit(number % 10))
-}
 
-// A whole part, a point, and the last digits of a number.
-pub(crate) fn with_point(text: &mut [u8], at: usize, whole: u64, count: u64, number: u64) -> usize
-    ensures { Writes (decimal_decimal whole ++ characters "." ++ last_digits count number) (page text.old at) (page text.new result) }
-{
-    let end = decimal(text, at, whole);
-    let end = put_text(text, end, b".");
-    last_digits(text, end, count, number)
+    // A number with a point before its last digits, as many as asked.
+    pub(crate) fn put_fixed_point(&mut self, decimals: u32, number: u64)
+        requires { 10 ^ decimals < 2 ^ 64 }
+        ensures { Writes (fixed_point decimals number) self.old self.new }
+    {
+        self.put_decimal(number / 10u64.pow(decimals));
+        self.put_text(b".");
+        self.put_last_digits(decimals, number);
+    }
 }

@@ -1,26 +1,30 @@
-// Writing into a lent buffer, character by character: each writer takes the position of the next character and answers
-// the one behind what it wrote. Nothing is written behind the buffer's end.
+// Writing into a lent buffer, character by character.
 ghost use Rattle.std.specs.Prelude.{[], ◌∷◌};
-ghost use Rattle.report.specs.Private.{page, Writes};
+ghost use Rattle.report.specs.Private.{Writes};
 
-pub(crate) fn put(text: &mut [u8], at: usize, character: u8) -> usize
-    ensures { Writes (character ∷ []) (page text.old at) (page text.new result) }
-{
-    if at < text.len() {
-        text[at] = character;
-        return at + 1;
-    }
-    at
+// A buffer that fills from its start, and the position of the next character. Nothing is written behind the buffer's end.
+#[derive(Drop)]
+pub(crate) struct Page<'a> {
+    pub text: &'a mut [u8],
+    pub at: usize,
 }
 
-pub(crate) fn put_text(text: &mut [u8], at: usize, characters: &[u8]) -> usize
-    ensures { Writes characters.now (page text.old at) (page text.new result) }
-{
-    let mut end = at;
-    let mut i = 0;
-    while i < characters.len() {
-        end = put(text, end, characters[i]);
-        i += 1;
+impl Page<'_> {
+    pub(crate) fn put(&mut self, character: u8)
+        ensures { Writes (character ∷ []) self.old self.new }
+    {
+        if self.at < self.text.len() {
+            self.text[self.at] = character;
+            self.at += 1;
+        }
     }
-    end
+
+    pub(crate) fn put_text(&mut self, characters: &[u8])
+        ensures { Writes characters.now self.old self.new }
+    {
+        // Kept: character by character, so that what does not fit is cut where the buffer ends.
+        for character in characters {
+            self.put(*character);
+        }
+    }
 }

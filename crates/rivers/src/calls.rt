@@ -1,57 +1,12 @@
 // Each call over a river, with its answer and the lists that it leaves printed.
 use crate::show;
-use filter::{DailyFilter, Setting, Step};
+use filter::{Advanced, DailyFilter, Refused, Setting};
 use minima::LineSetting;
+use recession::Statistics;
+use record::Reply;
+use series::Refusal;
 use std::io;
-
-pub fn reading(rt: &impl Print, bytes: &[u8], days: &mut [u32]) -> io::Result<()> {
-    show::named(rt, b"read", bytes.len() as u64)?;
-    let answer = record::read(bytes, days);
-    match answer {
-        record::Answer::Refused(refusal) => show::refusal(rt, refusal)?,
-        record::Answer::Stated {
-            first_day,
-            day_count,
-        } => {
-            show::named(rt, b": stated", first_day as u64)?;
-            show::number(rt, day_count as u64)?;
-        }
-    }
-    show::day_list(rt, days)
-}
-
-pub fn totals(rt: &impl Print, days: &[u32], base: &[u64]) -> io::Result<()> {
-    show::text(rt, b"totals")?;
-    let answer = totals::total(days, base);
-    match answer {
-        totals::Answer::Refused(refusal) => show::refusal(rt, refusal)?,
-        totals::Answer::Summed(t) => {
-            show::named(rt, b": summed", t.days as u64)?;
-            show::number(rt, t.flow)?;
-            show::number(rt, t.base)?;
-            show::number(rt, t.quick)?;
-            show::number(rt, t.index as u64)?;
-        }
-    }
-    show::end_of_line(rt)
-}
-
-pub fn filter(
-    rt: &impl Print,
-    setting: Setting,
-    passes: u32,
-    days: &[u32],
-    base: &mut [u64],
-) -> io::Result<()> {
-    show::named(rt, b"filter", setting.method as u64)?;
-    show::number(rt, setting.p as u64)?;
-    show::number(rt, setting.q as u64)?;
-    show::signed(rt, setting.s)?;
-    show::number(rt, passes as u64)?;
-    let verdict = filter::filter(setting, passes, days, base);
-    show::verdict(rt, verdict)?;
-    show::base_list(rt, base)
-}
+use totals::Totals;
 
 // A setting without s.
 pub fn plain(method: u32, p: u32, q: u32) -> Setting {
@@ -62,149 +17,154 @@ pub fn signed(method: u32, p: u32, q: u32, s: i32) -> Setting {
     Setting { method, p, q, s }
 }
 
-pub fn filter_and_totals(
-    rt: &impl Print,
-    setting: Setting,
-    passes: u32,
-    days: &[u32],
-    base: &mut [u64],
-) -> io::Result<()> {
-    filter(rt, setting, passes, days, base)?;
-    totals(rt, days, base)
-}
-
-pub fn line(
-    rt: &impl Print,
-    block_days: u32,
-    factor: u32,
-    days: &[u32],
-    base: &mut [u64],
-) -> io::Result<()> {
-    show::named(rt, b"line", block_days as u64)?;
-    show::number(rt, factor as u64)?;
-    let setting = LineSetting { block_days, factor };
-    let verdict = minima::line(setting, days, base);
-    show::verdict(rt, verdict)?;
-    show::base_list(rt, base)
-}
-
-pub fn line_and_totals(
-    rt: &impl Print,
-    block_days: u32,
-    factor: u32,
-    days: &[u32],
-    base: &mut [u64],
-) -> io::Result<()> {
-    line(rt, block_days, factor, days, base)?;
-    totals(rt, days, base)
-}
-
-pub fn staggered(
-    rt: &impl Print,
-    block_days: u32,
-    factor: u32,
-    choice: u32,
-    days: &[u32],
-    base: &mut [u64],
-    work: &mut [u64],
-) -> io::Result<()> {
-    show::named(rt, b"staggered", block_days as u64)?;
-    show::number(rt, factor as u64)?;
-    show::number(rt, choice as u64)?;
-    let setting = LineSetting { block_days, factor };
-    let verdict = staggered::staggered(setting, choice, days, &mut *base, &mut *work);
-    show::verdict(rt, verdict)?;
-    show::base_list(rt, base)?;
-    show::text(rt, b"work")?;
-    show::base_list(rt, work)
-}
-
-pub fn bfimax(
-    rt: &impl Print,
-    last_day: u32,
-    duration: u32,
-    p: u32,
-    days: &[u32],
-    base: &mut [u64],
-) -> io::Result<()> {
-    show::named(rt, b"bfimax", last_day as u64)?;
-    show::number(rt, duration as u64)?;
-    show::number(rt, p as u64)?;
-    let answer = bfimax::bfimax(last_day, duration, p, days, base);
-    match answer {
-        bfimax::Answer::Refused(refusal) => show::refusal(rt, refusal)?,
-        bfimax::Answer::Found(found) => show::named(rt, b": found", found as u64)?,
+pub fn reading(rt: &impl Print, bytes: &[u8], days: &mut [u32]) -> io::Result<()> {
+    print!(rt; "read {}", bytes.len())?;
+    match record::read(bytes, days) {
+        Ok(
+            Reply {
+                first_day,
+                day_count,
+            },
+        ) => print!(rt; ": stated {first_day} {day_count}")?,
+        Err(refusal) => show::refusal(rt, refusal)?,
     }
-    show::base_list(rt, base)
+    show::list(rt, "days", days)
 }
 
 pub fn half_life(rt: &impl Print, p: u32) -> io::Result<()> {
-    show::named(rt, b"half-life", p as u64)?;
-    let answer = half_life::half_life(p);
-    match answer {
-        half_life::Answer::Refused(refusal) => show::refusal(rt, refusal)?,
-        half_life::Answer::Days(n) => show::named(rt, b": days", n as u64)?,
+    print!(rt; "half-life {p}")?;
+    match half_life::half_life(p) {
+        Ok(days) => print!(rt; ": days {days}")?,
+        Err(refusal) => show::refusal(rt, refusal)?,
     }
-    show::end_of_line(rt)
+    println!(rt;)
 }
 
-pub fn ratios(
-    rt: &impl Print,
-    limb_days: u32,
-    days: &[u32],
-    base: &[u64],
-    limbs: &mut [u32],
-) -> io::Result<()> {
-    show::named(rt, b"ratios", limb_days as u64)?;
-    let answer = recession::ratios(limb_days, days, base, limbs);
-    match answer {
-        recession::Answer::Refused(refusal) => show::refusal(rt, refusal)?,
-        recession::Answer::Ratios { count, median } => {
-            show::named(rt, b": found", count as u64)?;
-            show::number(rt, median as u64)?;
-        }
+// A river, with room for its base flow, and where the calls over it are printed.
+#[derive(Drop)]
+pub struct River<'a, 'b, P> {
+    pub rt: &'a P,
+    pub days: &'a [u32],
+    pub base: &'b mut [u64],
+}
+
+impl<'a, 'b, P: Print> River<'a, 'b, P> {
+    // The end of a line that a call without values, which filled the base list, began.
+    fn filled(&self, answer: Result<(), Refusal>) -> io::Result<()> {
+        show::accepted(self.rt, answer)?;
+        show::base_list(self.rt, self.base)
     }
-    show::limb_list(rt, limbs)
+
+    pub fn totals(&self) -> io::Result<()> {
+        let rt = self.rt;
+        print!(rt; "totals")?;
+        match totals::total(self.days, self.base) {
+            Ok(
+                Totals {
+                    days,
+                    flow,
+                    base,
+                    quick,
+                    index,
+                },
+            ) => print!(rt; ": summed {days} {flow} {base} {quick} {index}")?,
+            Err(refusal) => show::refusal(rt, refusal)?,
+        }
+        println!(rt;)
+    }
+
+    pub fn filter(&mut self, setting: Setting, passes: u32) -> io::Result<()> {
+        let rt = self.rt;
+        let Setting { method, p, q, s } = setting;
+        print!(rt; "filter {method} {p} {q} {s} {passes}")?;
+        let answer = filter::filter(setting, passes, self.days, &mut *self.base);
+        self.filled(answer)
+    }
+
+    pub fn filter_and_totals(&mut self, setting: Setting, passes: u32) -> io::Result<()> {
+        self.filter(setting, passes)?;
+        self.totals()
+    }
+
+    pub fn line(&mut self, block_days: u32, factor: u32) -> io::Result<()> {
+        let rt = self.rt;
+        print!(rt; "line {block_days} {factor}")?;
+        let setting = LineSetting { block_days, factor };
+        let answer = minima::line(setting, self.days, &mut *self.base);
+        self.filled(answer)
+    }
+
+    pub fn line_and_totals(&mut self, block_days: u32, factor: u32) -> io::Result<()> {
+        self.line(block_days, factor)?;
+        self.totals()
+    }
+
+    pub fn staggered(
+        &mut self,
+        block_days: u32,
+        factor: u32,
+        choice: u32,
+        work: &mut [u64],
+    ) -> io::Result<()> {
+        let rt = self.rt;
+        print!(rt; "staggered {block_days} {factor} {choice}")?;
+        let setting = LineSetting { block_days, factor };
+        let answer = staggered::staggered(setting, choice, self.days, &mut *self.base, &mut *work);
+        self.filled(answer)?;
+        print!(rt; "work")?;
+        show::base_list(rt, work)
+    }
+
+    pub fn bfimax(&mut self, last_day: u32, duration: u32, p: u32) -> io::Result<()> {
+        let rt = self.rt;
+        print!(rt; "bfimax {last_day} {duration} {p}")?;
+        match bfimax::bfimax(last_day, duration, p, self.days, &mut *self.base) {
+            Ok(found) => print!(rt; ": found {found}")?,
+            Err(refusal) => show::refusal(rt, refusal)?,
+        }
+        show::base_list(rt, self.base)
+    }
+
+    pub fn ratios(&self, limb_days: u32, limbs: &mut [u32]) -> io::Result<()> {
+        let rt = self.rt;
+        print!(rt; "ratios {limb_days}")?;
+        match recession::ratios(limb_days, self.days, self.base, &mut *limbs) {
+            Ok(Statistics { count, median }) => print!(rt; ": found {count} {median}")?,
+            Err(refusal) => show::refusal(rt, refusal)?,
+        }
+        show::list(rt, "limbs", limbs)
+    }
+
+    // Steps over the river from the fresh state: the check sum of their values is that of pass 1.
+    pub fn steps(&self, setting: Setting) -> io::Result<()> {
+        let mut state = DailyFilter::fresh();
+        let mut sum = 0;
+        for day in self.days {
+            match step(self.rt, state, setting, *day)? {
+                Ok(next) => {
+                    sum = show::mixed(sum, next.base);
+                    state = next.state;
+                }
+                Err(refused) => state = refused.state,
+            }
+        }
+        let rt = self.rt;
+        println!(rt; "steps {} {sum}", setting.method)
+    }
 }
 
 // One step; a refusal is printed.
-pub fn step(rt: &impl Print, state: DailyFilter, setting: Setting, day: u32) -> io::Result<Step> {
+pub fn step(
+    rt: &impl Print,
+    state: DailyFilter,
+    setting: Setting,
+    day: u32,
+) -> io::Result<Result<Advanced, Refused>> {
     let step = state.step(setting, day);
-    if let Step::Refused { refusal, state: _ } = step {
-        show::text(rt, b"step")?;
-        show::refusal(rt, refusal)?;
-        show::end_of_line(rt)?;
+    if let Err(refused) = step {
+        print!(rt; "step")?;
+        show::refusal(rt, refused.refusal)?;
+        println!(rt;)?;
     }
     Ok(step)
-}
-
-// A check sum with the value of one step more.
-fn stepped(sum: u64, step: Step) -> u64 {
-    match step {
-        Step::Next { state: _, base } => show::mixed(sum, base),
-        Step::Refused { .. } => sum,
-    }
-}
-
-fn state_after(step: Step) -> DailyFilter {
-    match step {
-        Step::Next { state, base: _ } => state,
-        Step::Refused { refusal: _, state } => state,
-    }
-}
-
-// Steps over a river from the fresh state: the check sum of their values is that of pass 1.
-pub fn steps(rt: &impl Print, setting: Setting, days: &[u32]) -> io::Result<()> {
-    let mut state = DailyFilter::fresh();
-    let mut sum = 0;
-    let mut i = 0;
-    while i < days.len() {
-        let next = step(rt, state, setting, days[i])?;
-        sum = stepped(sum, next);
-        state = state_after(next);
-        i += 1;
-    }
-    show::named(rt, b"steps", setting.method as u64)?;
-    show::number(rt, sum)?;
-    show::end_of_line(rt)
 }

@@ -1,5 +1,6 @@
 // Every refusal of document 01's table at least once.
 use crate::calls;
+use crate::calls::{River, plain, signed};
 use filter::{DailyFilter, Yesterday};
 use std::io;
 
@@ -27,108 +28,157 @@ pub fn of_day_counts(rt: &impl Print) -> io::Result<()> {
 
 // 11, 12, 13, 16, 18, and method 2's least p, which passes.
 pub fn of_settings(rt: &impl Print) -> io::Result<()> {
-    let days = [100u32, 200];
-    let mut base = [7u64; 2];
     let mut limbs = [7u32; 2];
-    calls::filter(rt, calls::plain(8, 9250, 0), 1, &days, &mut base)?;
-    calls::filter(rt, calls::plain(2, 3333, 0), 1, &days, &mut base)?;
-    calls::filter(rt, calls::signed(4, 9250, 500, 1), 1, &days, &mut base)?;
-    calls::filter(
+    let mut river = River {
         rt,
-        calls::signed(7, 9250, 500, -10_000),
-        1,
-        &days,
-        &mut base,
-    )?;
-    calls::filter(rt, calls::plain(2, 9250, 0), 2, &days, &mut base)?;
-    calls::filter(rt, calls::plain(2, 3334, 0), 1, &days, &mut base)?;
-    calls::line(rt, 31, 9000, &days, &mut base)?;
-    calls::line(rt, 5, 10_000, &days, &mut base)?;
-    calls::ratios(rt, 1, &days, &base, &mut limbs)?;
-    calls::ratios(rt, 61, &days, &base, &mut limbs)
+        days: &[100, 200],
+        base: &mut [7; 2],
+    };
+    river.filter(plain(8, 9250, 0), 1)?;
+    river.filter(plain(2, 3333, 0), 1)?;
+    river.filter(signed(4, 9250, 500, 1), 1)?;
+    river.filter(signed(7, 9250, 500, -10_000), 1)?;
+    river.filter(plain(2, 9250, 0), 2)?;
+    river.filter(plain(2, 3334, 0), 1)?;
+    river.line(31, 9000)?;
+    river.line(5, 10_000)?;
+    river.ratios(1, &mut limbs)?;
+    river.ratios(61, &mut limbs)
 }
 
 // 9, 14, 10.
 pub fn of_lists(rt: &impl Print) -> io::Result<()> {
-    let long = [1u32; 36526];
-    let days = [100u32, 10_000_001];
-    let mut base = [7u64; 2];
-    let mut short = [7u64; 1];
+    let days = [100, 10_000_001];
     let mut limbs = [7u32; 2];
-    calls::filter(rt, calls::plain(1, 9250, 0), 1, &long, &mut base)?;
-    calls::filter(rt, calls::plain(1, 9250, 0), 1, &days, &mut short)?;
-    calls::filter(rt, calls::plain(1, 9250, 0), 1, &days, &mut base)?;
-    calls::line(rt, 5, 9000, &days, &mut base)?;
-    calls::totals(rt, &days, &base)?;
-    calls::ratios(rt, 2, &long, &base, &mut limbs)?;
-    calls::ratios(rt, 2, &days, &short, &mut limbs)?;
-    calls::ratios(rt, 2, &days, &base, &mut limbs)
+    let mut invalid = River {
+        rt,
+        days: &days,
+        base: &mut [7; 2],
+    };
+    let mut short = River {
+        rt,
+        days: &days,
+        base: &mut [7; 1],
+    };
+    let mut long = River {
+        rt,
+        days: &[1; 36526],
+        base: &mut [7; 2],
+    };
+    long.filter(plain(1, 9250, 0), 1)?;
+    short.filter(plain(1, 9250, 0), 1)?;
+    invalid.filter(plain(1, 9250, 0), 1)?;
+    invalid.line(5, 9000)?;
+    invalid.totals()?;
+    long.ratios(2, &mut limbs)?;
+    short.ratios(2, &mut limbs)?;
+    invalid.ratios(2, &mut limbs)
 }
 
-fn step_after(
-    rt: &impl Print,
-    flow: u32,
-    base: u64,
-    method: u32,
-    p: u32,
-    day: u32,
-) -> io::Result<()> {
+fn step_after(rt: &impl Print, yesterday: Yesterday, method: u32, p: u32) -> io::Result<()> {
     let state = DailyFilter {
-        yesterday: Yesterday::Known { flow, base },
+        yesterday: Some(yesterday),
     };
-    calls::step(rt, state, calls::plain(method, p, 0), day)?;
+    let _ = calls::step(rt, state, plain(method, p, 0), 10_000_001)?;
     Ok(())
 }
 
 // 11, 12, 15, 10.
 pub fn of_steps(rt: &impl Print) -> io::Result<()> {
-    step_after(rt, 5, 5001, 0, 0, 10_000_001)?;
-    step_after(rt, 5, 5001, 1, 0, 10_000_001)?;
-    step_after(rt, 5, 5001, 1, 9250, 10_000_001)?;
-    step_after(rt, 5, 5000, 1, 9250, 10_000_001)
+    let above_flow = Yesterday {
+        flow: 5,
+        base: 5001,
+    };
+    let at_flow = Yesterday {
+        flow: 5,
+        base: 5000,
+    };
+    step_after(rt, above_flow, 0, 0)?;
+    step_after(rt, above_flow, 1, 0)?;
+    step_after(rt, above_flow, 1, 9250)?;
+    step_after(rt, at_flow, 1, 9250)
 }
 
 // 17, 19, 20, 21, 22.
 pub fn of_values(rt: &impl Print) -> io::Result<()> {
-    let days = [0u32, 100, 90, 81];
-    let mut base = [series::NO_VALUE; 4];
+    let days = [0, 100, 90, 81];
     let mut limbs = [7u32; 1];
-    calls::line(rt, 1, 9000, &days, &mut base)?;
-    let at_base = [0u64, 100_000, 90_000, 81_000];
-    calls::ratios(rt, 2, &days, &base, &mut limbs)?;
-    calls::ratios(rt, 4, &days, &at_base, &mut limbs)?;
-    calls::ratios(rt, 3, &days, &at_base, &mut limbs)?;
-    calls::ratios(rt, 2, &days, &[0, 0, 90_001, 0], &mut limbs)?;
-    calls::totals(rt, &days, &base)?;
-    calls::totals(rt, &days, &[0, 0, 90_001, 0])
+    let mut without = River {
+        rt,
+        days: &days,
+        base: &mut [series::NO_VALUE; 4],
+    };
+    let at_base = River {
+        rt,
+        days: &days,
+        base: &mut [0, 100_000, 90_000, 81_000],
+    };
+    let above_flow = River {
+        rt,
+        days: &days,
+        base: &mut [0, 0, 90_001, 0],
+    };
+    without.line(1, 9000)?;
+    without.ratios(2, &mut limbs)?;
+    at_base.ratios(4, &mut limbs)?;
+    at_base.ratios(3, &mut limbs)?;
+    above_flow.ratios(2, &mut limbs)?;
+    without.totals()?;
+    above_flow.totals()
 }
 
+// 12, 23, 24, 21.
 pub fn of_spells(rt: &impl Print) -> io::Result<()> {
-    let days = [100u32, 0, 0, series::MISSING];
-    let mut base = [7u64; 4];
-    calls::bfimax(rt, 2, 2, 0, &days, &mut base)?;
-    calls::bfimax(rt, 2, 1, 9500, &days, &mut base)?;
-    calls::bfimax(rt, 2, 3651, 9500, &days, &mut base)?;
-    calls::bfimax(rt, 4, 2, 9500, &days, &mut base)?;
-    calls::bfimax(rt, 0, 2, 9500, &days, &mut base)?;
-    calls::bfimax(rt, 3, 2, 9500, &days, &mut base)?;
-    calls::bfimax(rt, 2, 2, 9500, &days, &mut base)?;
-    calls::bfimax(rt, 2, 3, 9500, &days, &mut base)
+    let mut river = River {
+        rt,
+        days: &[100, 0, 0, series::MISSING],
+        base: &mut [7; 4],
+    };
+    river.bfimax(2, 2, 0)?;
+    river.bfimax(2, 1, 9500)?;
+    river.bfimax(2, 3651, 9500)?;
+    river.bfimax(4, 2, 9500)?;
+    river.bfimax(0, 2, 9500)?;
+    river.bfimax(3, 2, 9500)?;
+    river.bfimax(2, 2, 9500)?;
+    river.bfimax(2, 3, 9500)
 }
 
 // 16, 17, 9, 14, 25, 10.
 pub fn of_staggered(rt: &impl Print) -> io::Result<()> {
-    let days = [5u32, 4, 6];
-    let long = [1u32; 36526];
     let mut base = [7u64; 3];
-    let mut short = [7u64; 1];
     let mut work = [7u64; 6];
-    calls::staggered(rt, 31, 9000, 1, &days, &mut base, &mut work)?;
-    calls::staggered(rt, 2, 9000, 0, &days, &mut base, &mut work)?;
-    calls::staggered(rt, 2, 9000, 4, &days, &mut base, &mut work)?;
-    calls::staggered(rt, 2, 9000, 1, &days, &mut base, &mut work)?;
-    calls::staggered(rt, 2, 9000, 1, &long, &mut base, &mut work)?;
-    calls::staggered(rt, 2, 9000, 1, &days, &mut short, &mut work)?;
-    calls::staggered(rt, 1, 9000, 1, &days, &mut base, &mut work)?;
-    calls::staggered(rt, 2, 9000, 1, &[5, 10_000_001, 6], &mut base, &mut work)
+    let mut river = River {
+        rt,
+        days: &[5, 4, 6],
+        base: &mut base,
+    };
+    river.staggered(31, 9000, 1, &mut work)?;
+    river.staggered(2, 9000, 0, &mut work)?;
+    river.staggered(2, 9000, 4, &mut work)?;
+    river.staggered(2, 9000, 1, &mut work)?;
+    let mut long = River {
+        rt,
+        days: &[1; 36526],
+        base: &mut base,
+    };
+    long.staggered(2, 9000, 1, &mut work)?;
+    let mut short = River {
+        rt,
+        days: &[5, 4, 6],
+        base: &mut [7; 1],
+    };
+    short.staggered(2, 9000, 1, &mut work)?;
+    let mut no_room = River {
+        rt,
+        days: &[5, 4, 6],
+        base: &mut base,
+    };
+    no_room.staggered(1, 9000, 1, &mut work)?;
+    let mut invalid = River {
+        rt,
+        days: &[5, 10_000_001, 6],
+        base: &mut base,
+    };
+    invalid.staggered(2, 9000, 1, &mut work)
 }

@@ -1,7 +1,7 @@
 -- The calculus of refusals: of a call's causes the first that holds decides.
 -- Assumes nothing.
 use Prim.Native.Nat.{ℕ}
-use mathlib.Core.Path.{◌≡◌, refl, sym, ◌∙◌, ap, ap₂}
+use mathlib.Core.Path.{◌≡◌, refl, sym, ◌∙◌, ap}
 use mathlib.Core.Bool.{Bool, true, false, cond, false≢true}
 use mathlib.Core.List.{List, [], ◌∷◌, ◌++◌}
 use mathlib.Core.Logic.{◌↔◌}
@@ -9,10 +9,9 @@ use mathlib.Core.Option.{Option, none, some, or_else, some-ne-none, none-ne-some
 use native.Mathlib.Omega.{arith}
 use borrow.Author.Tests.{eq-eqb}
 use lib.Dec.{eqb}
+use Rattle.std.specs.Prelude.{Result, Ok, Err}
 use Rattle.series.specs.declared.Refusal.{Refusal}
-use Rattle.series.specs.declared.Verdict.{Verdict}
-use Rattle.series.specs.declared.Verdict.TheVariants.{Accepted, Refused}
-use Rattle.series.specs.Causes.{refusal_number, refusal_of, Cause, cause, first_cause, by_cause, accepted, refused, outcome, leaves, Decides, WithCause}
+use Rattle.series.specs.Causes.{refusal_number, refusal_of, Cause, first_cause, by_cause, accepted, refused, outcome, leaves, Decides}
 
 -- no cause holds
 pub data AllFalse : List Cause → Type 0 where
@@ -139,34 +138,19 @@ first_append (c ∷ cs) ds = by_test c.holds (first_append cs ds)
     by_test true e = refl
     by_test false e = e
 
--- A check, cause by cause, the last one first: `series::refuse_if` takes one more, whose test is what the code's answer
--- equals, and nothing is refused before the first.
-pub decides_none : Decides [] Accepted
+-- A check, cause by cause: `series::refuse_if` tests one, and `?` ends the check at the first that holds.
+pub decides_none : Decides [] (Ok tt)
 decides_none = record { first = refl }
 
-pub decides_next : {cs : List Cause} {v v' : Verdict} {holds test : Bool} {n : ℕ} → holds ≡ test → WithCause v holds n v' → Decides cs v → Decides (cs ++ cause test n ∷ []) v'
-decides_next {cs} {test = test} {n} e w d =
-    record { first = w.next ∙ ap₂ (λ a b. or_else a (cond b (some n) none)) d.first e ∙ sym (first_append cs (cause test n ∷ [])) }
-
--- one whose test is only right where none of those before it holds
-pub decides_then : {cs : List Cause} {v v' : Verdict} {holds test : Bool} {n : ℕ} → (((k : ℕ) → holds_of k cs ≡ false) → holds ≡ test) → WithCause v holds n v' → Decides cs v → Decides (cs ++ cause test n ∷ []) v'
-unfolding or_else
-decides_then {cs} {v} {holds = holds} {test} {n} e w d =
-    record { first = w.next ∙ ap (λ a. or_else a (cond holds (some n) none)) d.first ∙ by_first (first_cause cs) (λ g. e (passed cs g)) ∙ sym (first_append cs (cause test n ∷ [])) }
-  where
-    by_first : (o : Option ℕ) → (o ≡ none → holds ≡ test) → or_else o (cond holds (some n) none) ≡ or_else o (cond test (some n) none)
-    by_first none g = ap (λ b. cond b (some n) none) (g refl)
-    by_first (some k) g = refl
-
--- a second check, after a first that refused nothing
-pub decides_after : {cs ds : List Cause} {v w : Verdict} → Decides cs v → v ≡ Accepted → Decides ds w → Decides (cs ++ ds) w
-unfolding or_else
-decides_after {cs} {ds} {v} d e g = record { first = g.first ∙ sym (first_append cs ds ∙ ap (λ o. or_else o (first_cause ds)) (sym d.first ∙ ap refusal_of e)) }
-
--- and none after a first that refused
-pub decides_alone : {cs : List Cause} (ds : List Cause) {v : Verdict} {r : Refusal} → Decides cs v → v ≡ Refused r → Decides (cs ++ ds) (Refused r)
+-- causes of which one holds, whatever causes are behind them
+pub decides_alone : {cs : List Cause} (ds : List Cause) {v : Result Unit Refusal} {r : Refusal} → Decides cs v → v ≡ Err r → Decides (cs ++ ds) (Err r)
 unfolding or_else
 decides_alone {cs} ds d e = record { first = sym (first_append cs ds ∙ ap (λ o. or_else o (first_cause ds)) (sym d.first ∙ ap refusal_of e)) }
+
+-- causes behind others of which none holds
+pub decides_after : {cs ds : List Cause} {v w : Result Unit Refusal} → Decides cs v → v ≡ Ok tt → Decides ds w → Decides (cs ++ ds) w
+unfolding or_else
+decides_after {cs} {ds} {v} d e g = record { first = g.first ∙ sym (first_append cs ds ∙ ap (λ o. or_else o (first_cause ds)) (sym d.first ∙ ap refusal_of e)) }
 
 -- what a call answers and leaves, by its first cause
 module _ {A : Type 0} (cs : List Cause) where
@@ -194,20 +178,20 @@ module _ {A : Type 0} (cs : List Cause) where
       by_first (some n) f g = g n refl
 
 -- the same of a call whose check came to a verdict
-module _ {cs : List Cause} {v : Verdict} (d : Decides cs v) where
-  pub decided_refused : {r : Refusal} → v ≡ Refused r → first_cause cs ≡ some (refusal_number r)
+module _ {cs : List Cause} {v : Result Unit Refusal} (d : Decides cs v) where
+  pub decided_refused : {r : Refusal} → v ≡ Err r → first_cause cs ≡ some (refusal_number r)
   decided_refused e = sym d.first ∙ ap refusal_of e
 
-  pub decided_accepted : v ≡ Accepted → first_cause cs ≡ none
+  pub decided_accepted : v ≡ Ok tt → first_cause cs ≡ none
   decided_accepted e = sym d.first ∙ ap refusal_of e
 
-  pub call_refused : {A : Type 0} (filled entry : A) {r : Refusal} → v ≡ Refused r → (some (refusal_number r) ≡ first_cause cs) × (entry ≡ leaves cs filled entry)
+  pub call_refused : {A : Type 0} (filled entry : A) {r : Refusal} → v ≡ Err r → (some (refusal_number r) ≡ first_cause cs) × (entry ≡ leaves cs filled entry)
   call_refused filled entry e = let h = decided_refused e in (sym h, sym (leaves_refused cs filled entry h))
 
-  pub call_accepted : {A : Type 0} (filled entry : A) {b : A} → v ≡ Accepted → b ≡ filled → (none ≡ first_cause cs) × (b ≡ leaves cs filled entry)
+  pub call_accepted : {A : Type 0} (filled entry : A) {b : A} → v ≡ Ok tt → b ≡ filled → (none ≡ first_cause cs) × (b ≡ leaves cs filled entry)
   call_accepted filled entry e f = let h = decided_accepted e in (sym h, f ∙ sym (leaves_accepted cs filled entry h))
 
-  pub answer_refused : {A : Type 0} (a : A) {r : Refusal} → v ≡ Refused r → refused (refusal_number r) ≡ outcome cs a
+  pub answer_refused : {A : Type 0} (a : A) {r : Refusal} → v ≡ Err r → refused (refusal_number r) ≡ outcome cs a
   answer_refused a e = sym (outcome_refused cs a (decided_refused e))
 
 -- and back: an answer tells whether a cause holds

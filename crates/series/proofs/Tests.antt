@@ -1,15 +1,14 @@
 -- The shared causes 9, 14, 10 and 20: what it means that one does not hold, list by list, and how loops find it. A cause
 -- holds of a list if it holds of what is left after i days that do not show it.
 -- Assumes nothing.
-use Prim.Native.Nat.{ℕ, zero, suc, ◌+◌, ◌*◌, ◌≤◌, ◌<◌, min}
-use mathlib.Core.Path.{◌≡◌, refl, sym, ◌∙◌, ap}
+use Prim.Native.Nat.{ℕ, zero, suc, ◌+◌, ◌*◌, ◌≤◌, ◌<◌}
+use mathlib.Core.Path.{◌≡◌, refl, sym, ◌∙◌, ap, ap₂}
 use mathlib.Core.Bool.{Bool, false, true≢false, ◌||◌, or_assoc, or-false}
 use mathlib.Core.List.{List, [], ◌∷◌, ◌++◌}
+use mathlib.Core.Logic.{◌⊎◌, inl, inr}
 use mathlib.Core.Option.{Option, none, some}
+use Rattle.std.proofs.lemmas.List.{nil_from_length}
 use native.Mathlib.Numerals.{add-one}
-use native.Mathlib.Nat.{min-eq_left, min-eq_right, le_of_lt, lt_of_not-le}
-use native.Mathlib.Decide.{dec_le}
-use native.Mathlib.Omega.{arith}
 use lib.ListN.{length, get_or, drop, replicate, drop_of_length-le}
 use lib.Dec.{ltb}
 use lib.Seq.{drop-cons}
@@ -90,11 +89,6 @@ unfolding any_invalid_base
 no_bases [] = refl
 no_bases (d ∷ ds) = refl
 
-pub next_base : (days base : List ℕ) (i : ℕ) → i < length days → i < length base
-    → any_invalid_base (drop i days) (drop i base) ≡ (is_invalid_base (day_of (get_or days i 0)) (base_of (get_or base i 0)) || any_invalid_base (drop (i + 1) days) (drop (i + 1) base))
-unfolding any_invalid_base
-next_base days base i h k = rw (add-one, drop-cons days i 0, drop-cons base i 0)
-
 -- a search: t says whether it has found anything, b is the next test, and more what comes behind it
 one_more : (t b more : Bool) {whole rest t' b' : Bool} → whole ≡ (t || rest) → rest ≡ (b || more) → b' ≡ b → t' ≡ (t || b') → whole ≡ (t' || more)
 one_more t b more e f g h = e ∙ ap (λ x. t || x) f ∙ sym (or_assoc t b more) ∙ ap (λ x. x || more) (sym (h ∙ ap (λ x. t || x) g))
@@ -111,18 +105,9 @@ module _ (days : List ℕ) (i : ℕ) (t : Bool) (left : any_invalid_day days ≡
   unfolding any_invalid_day
   days_looked_at h = sym (or-false t) ∙ sym (rw (drop_of_length-le days h) at left)
 
-module _ (days base : List ℕ) (i : ℕ) (t : Bool) (left : any_invalid_base days base ≡ (t || any_invalid_base (drop i days) (drop i base))) where
-  pub base_looked_at : {t' b : Bool} → i < length days → i < length base → b ≡ is_invalid_base (day_of (get_or days i 0)) (base_of (get_or base i 0)) → t' ≡ (t || b)
-      → any_invalid_base days base ≡ (t' || any_invalid_base (drop (i + 1) days) (drop (i + 1) base))
-  base_looked_at h k e f = one_more t _ _ left (next_base days base i h k) e f
+module _ (days base : List ℕ) (t : Bool) (ds bs : List ℕ) (left : any_invalid_base days base ≡ (t || any_invalid_base ds bs)) where
+  pub base_looked_at : {d b : ℕ} {ds' bs' : List ℕ} {t' : Bool} → (ds ≡ d ∷ ds') × (bs ≡ b ∷ bs') → t' ≡ is_invalid_base (day_of d) (base_of b) → any_invalid_base days base ≡ ((t || t') || any_invalid_base ds' bs')
+  base_looked_at {d} {b} {ds'} {bs'} e f = one_more t _ _ left (ap₂ any_invalid_base e.0 e.1 ∙ any_base d ds' b bs') f refl
 
-  pub bases_looked_at : min (length days) (length base) ≤ i → t ≡ any_invalid_base days base
-  bases_looked_at h = sym (left ∙ ap (λ x. t || x) (none_left (dec_le (length days) (length base))) ∙ or-false t)
-    where
-      none_left : Dec (length days ≤ length base) → any_invalid_base (drop i days) (drop i base) ≡ false
-      none_left (yes k) =
-          let past : length days ≤ i = omega (arith, min-eq_left k) in
-          ap (λ l. any_invalid_base l (drop i base)) (drop_of_length-le days past) ∙ no_invalid_base (drop i base)
-      none_left (no k) =
-          let past : length base ≤ i = omega (arith, min-eq_right (le_of_lt (lt_of_not-le k))) in
-          ap (any_invalid_base (drop i days)) (drop_of_length-le base past) ∙ no_bases (drop i days)
+  pub bases_looked_at : (length ds ≡ 0) ⊎ (length bs ≡ 0) → t ≡ any_invalid_base days base
+  bases_looked_at e = sym (left ∙ ap (λ x. t || x) (elim e [ inl h ↦ ap (λ l. any_invalid_base l bs) (nil_from_length ds h) ∙ no_invalid_base bs | inr h ↦ ap (any_invalid_base ds) (nil_from_length bs h) ∙ no_bases ds ]) ∙ or-false t)

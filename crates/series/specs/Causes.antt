@@ -1,10 +1,8 @@
 -- Refusals (document 01, "Refusal table"): of a call's causes, in the call's order, the first that holds decides.
-use Rattle.std.specs.Prelude.{ℕ, ◌≡◌, Bool, cond, List, [], ◌∷◌}
-use Rattle.std.proofs.Math.Option.{Option, none, some, or_else}
+use Rattle.std.specs.Prelude.{ℕ, ◌≡◌, Bool, cond, List, [], ◌∷◌, Result, Ok, Err}
+use Rattle.std.proofs.Math.Option.{Option, none, some}
 use Rattle.series.specs.declared.Refusal.{Refusal}
 use Rattle.series.specs.declared.Refusal.TheVariants.{Truncated, UnknownKind, MisplacedHead, ValueOutOfRange, TooManyDays, DayListTooShort, WrongEndCount, BytesAfterEnd, DayListTooLong, InvalidDay, UnknownMethod, ParameterOutOfRange, InvalidPasses, LengthsDiffer, InvalidState, LineSettingOutOfRange, NoLine, LimbDaysOutOfRange, NoRatio, InvalidBase, NoFlow, LimbListTooShort, DurationOutOfRange, InvalidSpell, WorkListLength}
-use Rattle.series.specs.declared.Verdict.{Verdict}
-use Rattle.series.specs.declared.Verdict.TheVariants.{Accepted, Refused}
 
 -- document 01's number of each refusal
 abbrev pub refusal_number : Refusal → ℕ
@@ -34,10 +32,10 @@ refusal_number DurationOutOfRange = 23
 refusal_number InvalidSpell = 24
 refusal_number WorkListLength = 25
 
--- the number of a verdict's refusal, or none where it accepts
-abbrev pub refusal_of : Verdict → Option ℕ
-refusal_of Accepted = none
-refusal_of (Refused r) = some (refusal_number r)
+-- the number of a check's or a call's refusal, or none where it accepts
+abbrev pub refusal_of : {A : Type 0} → Result A Refusal → Option ℕ
+refusal_of (Ok _) = none
+refusal_of (Err r) = some (refusal_number r)
 
 -- a cause of refusal: whether it holds, and its number
 pub record Cause : Type 0 where
@@ -62,6 +60,11 @@ pub data Outcome (A : Type 0) : Type 0 where
   accepted : A → Outcome A
   refused : ℕ → Outcome A
 
+-- the outcome of a call by its answer in the program
+abbrev pub outcome_of : {A : Type 0} → Result A Refusal → Outcome A
+outcome_of (Ok a) = accepted a
+outcome_of (Err r) = refused (refusal_number r)
+
 -- what follows of an outcome: of its number, or of its values
 abbrev pub by_outcome : {A B : Type 0} → Outcome A → (refuse : ℕ → B) → (accept : A → B) → B
 by_outcome (accepted a) refuse accept = accept a
@@ -80,10 +83,6 @@ outcome cs a = by_cause (first_cause cs) refused (accepted a)
 unfoldable pub leaves : {A : Type 0} → List Cause → (filled entry : A) → A
 leaves cs filled entry = by_cause (first_cause cs) (λ _. entry) filled
 
--- a verdict is that of the first of some causes
-pub record Decides (cs : List Cause) (v : Verdict) : Type 0 where
-  pub first : refusal_of v ≡ first_cause cs
-
--- a verdict with one cause more behind it: the refusal so far, or else the cause's number where it holds
-pub record WithCause (v : Verdict) (holds : Bool) (n : ℕ) (v' : Verdict) : Type 0 where
-  pub next : refusal_of v' ≡ or_else (refusal_of v) (cond holds (some n) none)
+-- a check accepts where no cause of a list holds, and else refuses by the first that does
+pub record Decides (cs : List Cause) (r : Result Unit Refusal) : Type 0 where
+  pub first : refusal_of r ≡ first_cause cs

@@ -2,10 +2,10 @@
 // the tests that several calls share. A day list holds flows in litres a second, a base list thousandths of that.
 #![tactic(auto)]
 
-ghost use Rattle.std.specs.Prelude.{◌≡◌, ◌||◌};
+ghost use Rattle.std.specs.Prelude.{◌≡◌, ◌↔◌, true, false};
 ghost use Rattle.series.specs.Units.{is_invalid_day, day_of, base_of, within};
-ghost use Rattle.series.specs.Causes.{refusal_number, WithCause};
-ghost use Rattle.series.specs.Lists.{too_long, lengths_differ, any_invalid_day, is_invalid_base, any_invalid_base};
+ghost use Rattle.series.specs.Causes.{refusal_number, Decides};
+ghost use Rattle.series.specs.Lists.{too_long, lengths_differ, any_invalid_day, is_invalid_base, any_invalid_base, list_causes};
 
 // The most days that a list may have.
 pub const DAY_LIMIT: usize = 36_525;
@@ -17,110 +17,76 @@ pub const MISSING: u32 = 4_294_967_295;
 pub const NO_VALUE: u64 = 18_446_744_073_709_551_615;
 
 // The rows of document 01's refusal table, in its order.
-#[derive(Clone, Copy)]
+#[derive(Clone, Copy, Debug, PartialEq, Eq)]
 pub enum Refusal {
     // 1: bytes that run out within a body, or before an end entry
-    Truncated,
+    Truncated = 1,
     // 2: a kind that is none of 01, 02, 03, 04, 09
-    UnknownKind,
+    UnknownKind = 2,
     // 3: a first entry that is not a head, or a later one that is
-    MisplacedHead,
+    MisplacedHead = 3,
     // 4: an entry's value outside the range of its kind
-    ValueOutOfRange,
+    ValueOutOfRange = 4,
     // 5: a record of more than 36,525 days
-    TooManyDays,
+    TooManyDays = 5,
     // 6: no room in the day list for a record's days
-    DayListTooShort,
+    DayListTooShort = 6,
     // 7: an end entry that counts another number of days
-    WrongEndCount,
+    WrongEndCount = 7,
     // 8: bytes behind the end entry
-    BytesAfterEnd,
+    BytesAfterEnd = 8,
     // 9: a day list of more than 36,525 days
-    DayListTooLong,
+    DayListTooLong = 9,
     // 10: a number for a day that is neither a flow nor the mark of a missing day
-    InvalidDay,
+    InvalidDay = 10,
     // 11: a method that is not 1 to 7
-    UnknownMethod,
+    UnknownMethod = 11,
     // 12: p, q or s outside its range
-    ParameterOutOfRange,
+    ParameterOutOfRange = 12,
     // 13: passes that are not 1, 2 or 3, or are 2 or 3 in another method than 1
-    InvalidPasses,
+    InvalidPasses = 13,
     // 14: a base list that is not as long as the day list
-    LengthsDiffer,
+    LengthsDiffer = 14,
     // 15: a state whose flow is above 10,000,000, or whose base is above 1000 × that flow
-    InvalidState,
+    InvalidState = 15,
     // 16: block length N, factor g or choice out of range
-    LineSettingOutOfRange,
+    LineSettingOutOfRange = 16,
     // 17: no segment with two or more turning points
-    NoLine,
+    NoLine = 17,
     // 18: shortest limb L out of range
-    LimbDaysOutOfRange,
+    LimbDaysOutOfRange = 18,
     // 19: no ratio, since no limb counts
-    NoRatio,
+    NoRatio = 19,
     // 20: a base value on a missing day, or one above 1000 × the flow of its day
-    InvalidBase,
+    InvalidBase = 20,
     // 21: a flow total Y of 0
-    NoFlow,
+    NoFlow = 21,
     // 22: a limb list without two numbers for each counted limb
-    LimbListTooShort,
+    LimbListTooShort = 22,
     // 23: duration D out of range
-    DurationOutOfRange,
+    DurationOutOfRange = 23,
     // 24: a last day outside the list, or a missing day or none on one of the D days
-    InvalidSpell,
+    InvalidSpell = 24,
     // 25: a work list that is not N times as long as the day list
-    WorkListLength,
+    WorkListLength = 25,
 }
 
 impl Refusal {
     // Document 01's number of the refusal.
+    // Kept: a method, since it is document 01's number of the refusal and no conversion of its meaning.
     pub fn number(self) -> u32
         ensures { result ≡ refusal_number self }
     {
-        match self {
-            Refusal::Truncated => 1,
-            Refusal::UnknownKind => 2,
-            Refusal::MisplacedHead => 3,
-            Refusal::ValueOutOfRange => 4,
-            Refusal::TooManyDays => 5,
-            Refusal::DayListTooShort => 6,
-            Refusal::WrongEndCount => 7,
-            Refusal::BytesAfterEnd => 8,
-            Refusal::DayListTooLong => 9,
-            Refusal::InvalidDay => 10,
-            Refusal::UnknownMethod => 11,
-            Refusal::ParameterOutOfRange => 12,
-            Refusal::InvalidPasses => 13,
-            Refusal::LengthsDiffer => 14,
-            Refusal::InvalidState => 15,
-            Refusal::LineSettingOutOfRange => 16,
-            Refusal::NoLine => 17,
-            Refusal::LimbDaysOutOfRange => 18,
-            Refusal::NoRatio => 19,
-            Refusal::InvalidBase => 20,
-            Refusal::NoFlow => 21,
-            Refusal::LimbListTooShort => 22,
-            Refusal::DurationOutOfRange => 23,
-            Refusal::InvalidSpell => 24,
-            Refusal::WorkListLength => 25,
-        }
+        self as u32
     }
-}
-
-// What a call, or a check of a part of its input, comes to: accepted, or the first cause of refusal.
-#[derive(Clone, Copy)]
-pub enum Verdict {
-    Accepted,
-    Refused(Refusal),
 }
 
 // A number of a setting lies in its range, from low to high.
+// Kept: the rule's word for std's `contains`, which the definitions of causes share.
 pub fn within(low: u32, high: u32, n: u32) -> bool
     ensures { result ≡ within low high n }
 {
-    if low <= n {
-        return n <= high;
-    }
-    false
+    (low..=high).contains(&n)
 }
 
 // 9: the day list is over 36,525 long.
@@ -141,16 +107,7 @@ pub fn lengths_differ(days: &[u32], base: &[u64]) -> bool
 pub fn is_invalid_day(day: u32) -> bool
     ensures { result ≡ is_invalid_day day }
 {
-    if day <= FLOW_LIMIT {
-        return false;
-    }
-    day != MISSING
-}
-
-fn either(a: bool, b: bool) -> bool
-    ensures { result ≡ (a || b) }
-{
-    a || b
+    FLOW_LIMIT < day && day != MISSING
 }
 
 // 10: a day is neither a flow nor missing. (A walk that does not stop early is the faster one.)
@@ -158,10 +115,8 @@ pub fn any_invalid_day(days: &[u32]) -> bool
     ensures { result ≡ any_invalid_day days.now }
 {
     let mut invalid = false;
-    let mut i = 0;
-    while i < days.len() {
-        invalid = either(invalid, is_invalid_day(days[i]));
-        i += 1;
+    for day in days {
+        invalid |= is_invalid_day(*day);
     }
     invalid
 }
@@ -176,32 +131,34 @@ pub fn is_invalid_base(day: u32, base: u64) -> bool
     if day == MISSING {
         return true;
     }
-    1000 * (day as u64) < base
+    1000 * u64::from(day) < base
 }
 
 // 20: that on some day of two lists.
 pub fn any_invalid_base(days: &[u32], base: &[u64]) -> bool
     ensures { result ≡ any_invalid_base days.now base.now }
 {
-    let both = numbers::least(days.len(), base.len());
     let mut invalid = false;
-    let mut i = 0;
-    while i < both {
-        invalid = either(invalid, is_invalid_base(days[i], base[i]));
-        i += 1;
+    for (day, value) in days.iter().zip(base) {
+        invalid |= is_invalid_base(*day, *value);
     }
     invalid
 }
 
-// The refusal so far; or else this one, where its cause holds.
-pub fn refuse_if(so_far: Verdict, holds: bool, refusal: Refusal) -> Verdict
-    ensures { WithCause so_far holds (refusal_number refusal) result }
+// One cause of refusal: a check tests them in the call's order, and `?` ends it at the first that holds.
+pub fn refuse_if(holds: bool, refusal: Refusal) -> Result<(), Refusal>
+    ensures ok { (result ≡ Ok tt) ↔ (holds ≡ false) }
+    ensures err { (result ≡ Err refusal) ↔ (holds ≡ true) }
 {
-    if let Verdict::Refused(earlier) = so_far {
-        return Verdict::Refused(earlier);
-    }
-    if holds {
-        return Verdict::Refused(refusal);
-    }
-    Verdict::Accepted
+    if holds { Err(refusal) } else { Ok(()) }
+}
+
+// 9, 14, 10: what the calls over a day list and a base list have in common.
+#[tactic(auto, unfolding(crate::specs::Lists::list_causes))]
+pub fn check_lists(days: &[u32], base: &[u64]) -> Result<(), Refusal>
+    ensures { Decides (list_causes days.now base.now) result }
+{
+    refuse_if(too_long(days), Refusal::DayListTooLong)?;
+    refuse_if(lengths_differ(days, base), Refusal::LengthsDiffer)?;
+    refuse_if(any_invalid_day(days), Refusal::InvalidDay)
 }

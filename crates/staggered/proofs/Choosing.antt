@@ -1,238 +1,146 @@
--- The choice on a day as the code makes it: the lowest and the highest by a walk over what is there, and the middle one by
+-- The choice on a day as the code makes it, over the values of the day: the lowest, the highest, and the middle one by
 -- counting how many are smaller. Each is the value of its rank.
 -- Assumes nothing.
 use Prim.Native.Nat.{ℕ, suc, ◌+◌, ◌/◌, ◌≤◌, ◌<◌, min, max}
-use mathlib.Core.Path.{◌≡◌, refl, sym, ◌∙◌, ap, subst}
-use mathlib.Core.Bool.{Bool, true, false, cond, not, true≢false}
+use mathlib.Core.Path.{◌≡◌, refl, sym, ◌∙◌, ap}
+use mathlib.Core.Bool.{Bool, true, false, not, true≢false}
 use mathlib.Core.List.Memᴰ
 use mathlib.Core.List.{List, [], ◌∷◌, map, Memᴰ}
-use mathlib.Core.Option.{Option, none, some, none-ne-some, some-injective}
+use mathlib.Core.Option.{Option, none, some}
 use mathlib.Core.Logic.{◌⊎◌, inl, inr, ⊎_elim}
-use native.Mathlib.Nat.{le_trans, le_of_lt, lt_of_not-le, min-eq_left, min-eq_right, max-eq_left, max-eq_right}
+use native.Mathlib.Nat.{le_of_lt, lt_of_not-le, min-eq_left, min-eq_right, max-eq_left, max-eq_right}
 use native.Mathlib.Decide.{dec_le, ℕ_discrete}
 use native.Mathlib.Omega.{arith}
 use lib.Dec.{leb, ltb, eqb}
 use lib.ListN.{length}
 use borrow.Author.Tests.{eq-eqb, ne_eqb, leb-true, le-leb, ltb-true, lt-ltb, le-ltb}
+use Rattle.std.specs.Prelude.{Option as Held, Some, None, MatchOption}
+use Rattle.std.specs.Option.{option_map, unwrap_or}
+use Rattle.std.specs.List.{AllWithin, HoldsAt, filter, fold, reduce}
 use Rattle.numbers.specs.Arithmetic.{rounded}
 use Rattle.numbers.specs.Order.{ranked, below}
-use Rattle.numbers.proofs.Sorting.{All, none_left, and_all, all_weaken, below_smaller, below_not}
+use Rattle.numbers.proofs.Sorting.{All, none_left, and_all, members_all, below_end, below_smaller, below_not}
 use Rattle.numbers.proofs.Ranks.{HasRank, rank_found, found_rank, ranked_one, ranked_none, lowest_ranked, highest_ranked}
-use Rattle.series.specs.Units.{no_value_mark, base_of}
+use Rattle.series.specs.Units.{no_value_mark, base_of, base_mark}
 use Rattle.series.proofs.Views.{both_of, base_none, base_value}
 use Rattle.staggered.specs.Rule.{present, rank_of, chosen}
-use Rattle.staggered.specs.Private.{merged, pick_of, up_of, has_rank}
+use Rattle.staggered.specs.Private.{option_of, has_rank}
 
 -- a number in memory is the mark, or a value
 seen : (x : ℕ) → (x ≡ no_value_mark) ⊎ ((x ≡ no_value_mark → ⊥) × (base_of x ≡ some x))
 seen x = elim (ℕ_discrete x no_value_mark) [ yes e ↦ inl e | no n ↦ inr (n, base_value x n) ]
 
--- the best of several by a rule, from the last to the first, and from the first on
-unfoldable pub folded : (pick : ℕ → ℕ → ℕ) → List (Option ℕ) → Option ℕ
-folded pick [] = none
-folded pick (o ∷ os) = merged pick o (folded pick os)
+-- the numbers of a day that are not the mark are its values
+pub values_kept : (xs : List ℕ) → filter (λ x. not (eqb x no_value_mark)) xs ≡ present (map base_of xs)
+unfolding present
+values_kept [] = refl
+values_kept (x ∷ xs) =
+    ⊎_elim (λ e. rw (eq-eqb x no_value_mark e, base_none x e) (values_kept xs)) (λ m. rw (ne_eqb x no_value_mark m.0, m.1) (ap (λ l. x ∷ l) (values_kept xs))) (seen x)
 
--- an order of numbers in which a rule picks one that comes before both
-record Picks (pick : ℕ → ℕ → ℕ) (Before : ℕ → ℕ → Type 0) : Type 0 where
-  one : (a b : ℕ) → ((pick a b ≡ a) × Before a b) ⊎ ((pick a b ≡ b) × Before b a)
-  itself : (a : ℕ) → Before a a
-  through : (a b c : ℕ) → Before a b → Before b c → Before a c
+-- those smaller than a value, of all numbers, are the values smaller than it: no mark is
+pub smaller_counted : (v : ℕ) (test : ℕ → Bool) → v ≤ no_value_mark → ((x : ℕ) → test x ≡ ltb x v) → (xs : List ℕ) → length (filter test xs) ≡ below v (present (map base_of xs))
+unfolding present
+smaller_counted v test h e [] = sym (below_end v)
+smaller_counted v test h e (x ∷ xs) =
+    let rest = smaller_counted v test h e xs in
+    rw (e x)
+    (elim (dec_le v x) [
+      | yes g ↦ rw (le-ltb x v g) (rest ∙ ⊎_elim (λ m. rw (base_none x m)) (λ m. rw m.1 (sym (below_not v x _ g))) (seen x))
+      | no g ↦
+          let l = lt_of_not-le g in
+          rw (lt-ltb x v l, base_value x (λ m. absurd (omega arith))) (ap suc rest ∙ sym (below_smaller v x _ l))
+    ])
 
--- the first of all in that order, or none of none
-data First (Before : ℕ → ℕ → Type 0) : Option ℕ → List ℕ → Type 0 where
-  of_none : First Before none []
-  of_all : {v : ℕ} {l : List ℕ} → Memᴰ v l → All (Before v) l → First Before (some v) l
+-- the test of a rank, by the two counts
+module _ (k v : ℕ) (l : List ℕ) {smaller : ℕ} (s : smaller ≡ below v l) where
+  pub rank_tested : {up : ℕ} → smaller < k → up ≡ below (suc v) l → leb k up ≡ has_rank k v l
+  rank_tested h u = rw (lt-ltb (below v l) k (omega arith)) (ap (leb k) u)
 
-module _ {pick : ℕ → ℕ → ℕ} {Before : ℕ → ℕ → Type 0} (p : Picks pick Before) where
-  one_more : (a : ℕ) {o : Option ℕ} {l : List ℕ} → First Before o l → First Before (merged pick (some a) o) (a ∷ l)
-  one_more a of_none = of_all (Memᴰ.head refl) (and_all (p.itself a) none_left)
-  one_more a (of_all {v} {l} m h) =
-      ⊎_elim
-      (λ e. of_all (Memᴰ.head e.0) (subst (λ x. All (Before x) (a ∷ l)) (sym e.0) (and_all (p.itself a) (all_weaken (λ x k. p.through a v x e.1 k) h))))
-      (λ e. subst (λ x. First Before (some x) (a ∷ l)) (sym e.0) (of_all (Memᴰ.tail m) (and_all e.1 h)))
-      (p.one a v)
+  pub rank_refused : k ≤ smaller → ltb smaller k ≡ has_rank k v l
+  rank_refused h = rw (le-ltb smaller k h, le-ltb (below v l) k (omega arith)) refl
 
-  folded_first : (os : List (Option ℕ)) → First Before (folded pick os) (present os)
-  unfolding folded present
-  folded_first [] = of_none
-  folded_first (none ∷ os) = folded_first os
-  folded_first (some a ∷ os) = one_more a (folded_first os)
+-- what holds at every place of a list holds of all its elements
+all_at_places : {P : ℕ → Type 0} (l : List ℕ) → AllWithin P l 0 (length l) → All P l
+all_at_places [] h = none_left
+all_at_places (x ∷ l) h = and_all (h 0 0 (omega arith) (omega arith)) (all_at_places l (λ i d _ g. h (suc i) d (omega arith) (omega arith)))
 
-lows : Picks min (λ a b. a ≤ b)
-lows =
-    record {
-      one = λ a b. elim (dec_le a b) [ yes h ↦ inl (min-eq_left h, h) | no h ↦ let g = le_of_lt (lt_of_not-le h) in inr (min-eq_right g, g) ];
-      itself = λ a. omega arith;
-      through = λ a b c h k. le_trans h k;
-    }
-
-highs : Picks max (λ a b. b ≤ a)
-highs =
-    record {
-      one = λ a b. elim (dec_le a b) [ yes h ↦ inr (max-eq_right h, h) | no h ↦ let g = le_of_lt (lt_of_not-le h) in inl (max-eq_left g, g) ];
-      itself = λ a. omega arith;
-      through = λ a b c h k. le_trans k h;
-    }
-
-pub extreme_chosen : (highest : Bool) (os : List (Option ℕ)) → folded (pick_of highest) os ≡ chosen rounded (cond highest 2 1) os
-unfolding chosen rank_of
-extreme_chosen true os = go (folded_first highs os)
-  where
-    go : {o : Option ℕ} {l : List ℕ} → First (λ a b. b ≤ a) o l → o ≡ ranked leb (length l) l
-    go of_none = sym (ranked_none leb 0)
-    go (of_all {v} m h) = sym (highest_ranked v m h)
-extreme_chosen false os = go (folded_first lows os)
-  where
-    go : {o : Option ℕ} {l : List ℕ} → First (λ a b. a ≤ b) o l → o ≡ ranked leb 1 l
-    go of_none = sym (ranked_none leb 1)
-    go (of_all {v} m h) = sym (lowest_ranked v m h)
-
--- a walk that keeps the best so far
-merged_through : (highest : Bool) (a b c : Option ℕ) → merged (pick_of highest) (merged (pick_of highest) a b) c ≡ merged (pick_of highest) a (merged (pick_of highest) b c)
-merged_through highest none b c = refl
-merged_through highest (some a) none c = refl
-merged_through highest (some a) (some b) none = refl
-merged_through true (some a) (some b) (some c) = let e : max (max a b) c ≡ max a (max b c) = omega arith in ap some e
-merged_through false (some a) (some b) (some c) = let e : min (min a b) c ≡ min a (min b c) = omega arith in ap some e
-
-pub best_next : (highest : Bool) (best v : Option ℕ) (os : List (Option ℕ)) {best' : Option ℕ} → best' ≡ merged (pick_of highest) best v
-    → merged (pick_of highest) best' (folded (pick_of highest) os) ≡ merged (pick_of highest) best (folded (pick_of highest) (v ∷ os))
-unfolding folded
-best_next highest best v os e = ap (λ b. merged (pick_of highest) b (folded (pick_of highest) os)) e ∙ merged_through highest best v (folded (pick_of highest) os)
-
-pub best_end : (highest : Bool) (best : Option ℕ) → merged (pick_of highest) best (folded (pick_of highest) []) ≡ best
-unfolding folded
-best_end highest none = refl
-best_end highest (some v) = refl
-
--- one step of it: of two, the higher, by one more than each, and the lower, by the mark that is above all
-module _ (highest : Bool) (a b : ℕ) where
-  abbrev Better : ℕ → Type 0
-  Better r = base_of r ≡ merged (pick_of highest) (base_of a) (base_of b)
-
-  pub second_higher : highest ≡ true → up_of (base_of a) < up_of (base_of b) → Better b
-  second_higher e h = go (base_of a) (base_of b) h ∙ ap (λ p. merged (pick_of p) (base_of a) (base_of b)) (sym e)
-    where
-      go : (x y : Option ℕ) → up_of x < up_of y → y ≡ merged max x y
-      go none y h = refl
-      go (some x) none h = absurd (omega arith)
-      go (some x) (some y) h = ap some (sym (max-eq_right (omega arith)))
-
-  pub first_higher : highest ≡ true → up_of (base_of b) ≤ up_of (base_of a) → Better a
-  first_higher e h = go (base_of a) (base_of b) h ∙ ap (λ p. merged (pick_of p) (base_of a) (base_of b)) (sym e)
-    where
-      go : (x y : Option ℕ) → up_of y ≤ up_of x → x ≡ merged max x y
-      go none none h = refl
-      go none (some y) h = absurd (omega arith)
-      go (some x) none h = refl
-      go (some x) (some y) h = ap some (sym (max-eq_left (omega arith)))
-
-  pub second_lower : highest ≡ false → a ≤ no_value_mark → b < a → Better b
-  second_lower e k h = ⊎_elim (λ m. rw (e, base_none a m)) (λ m. rw (e, m.1, base_value b (λ n. absurd (omega arith))) (ap some (sym (min-eq_right (le_of_lt h))))) (seen a)
-
-  pub first_lower : highest ≡ false → b ≤ no_value_mark → a ≤ b → Better a
-  first_lower e k h =
-      ⊎_elim (λ m. rw (e, base_none a m, base_none b (omega arith))) (λ m. ⊎_elim (λ n. rw (e, m.1, base_none b n)) (λ n. rw (e, m.1, n.1) (ap some (sym (min-eq_left h)))) (seen b)) (seen a)
-
--- the first that passes a test
-unfoldable pub found : (test : ℕ → Bool) → List ℕ → Option ℕ
-found test [] = none
-found test (x ∷ l) = cond (test x) (some x) (found test l)
-
-module _ (test : ℕ → Bool) where
-  pub nothing_found : found test [] ≡ none
-  unfolding found
-  nothing_found = refl
-
-  found_passes : (l : List ℕ) {v : ℕ} → found test l ≡ some v → test v ≡ true
-  unfolding found
-  found_passes [] {v} e = absurd (none-ne-some v e)
-  found_passes (x ∷ l) {v} e = by_test (test x) refl (found_passes l)
-    where
-      by_test : (b : Bool) → test x ≡ b → (found test l ≡ some v → test v ≡ true) → test v ≡ true
-      by_test true h rest = subst (λ y. test y ≡ true) (some-injective x v (rw h at e)) h
-      by_test false h rest = rest (rw h at e)
-
-  found_fails : (l : List ℕ) {v : ℕ} → Memᴰ v l → test v ≡ true → found test l ≡ none → ⊥
-  unfolding found
-  found_fails [] m h e = Memᴰ.not-nil m
-  found_fails (x ∷ l) {v} m h e = by_test (test x) refl (found_fails l)
-    where
-      by_test : (b : Bool) → test x ≡ b → (Memᴰ v l → test v ≡ true → found test l ≡ none → ⊥) → ⊥
-      by_test true g rest = none-ne-some x (sym (rw g at e))
-      by_test false g rest = ⊎_elim (λ d. true≢false (sym h ∙ ap test d ∙ g)) (λ n. rest n h (rw g at e)) (Memᴰ.cases_cons m)
-
--- the one of rank k
-abbrev pub of_rank : (k : ℕ) → List ℕ → ℕ → Bool
-of_rank k l v = has_rank k (some v) l
-
+-- the first value of a rank, or none where none has it
 module _ (k : ℕ) (l : List ℕ) where
-  tested : (v : ℕ) → of_rank k l v ≡ true → HasRank k v l
+  tested : (v : ℕ) → has_rank k v l ≡ true → HasRank k v l
   tested v e = let h = both_of _ _ e in record { fewer = ltb-true (below v l) k h.0; enough = leb-true k (below (suc v) l) h.1 }
 
-  holds : (v : ℕ) → HasRank k v l → of_rank k l v ≡ true
+  holds : (v : ℕ) → HasRank k v l → has_rank k v l ≡ true
   holds v h = simp (lt-ltb (below v l) k h.fewer, le-leb k (below (suc v) l) h.enough)
 
-  pub found_ranked : 0 < k → found (of_rank k l) l ≡ ranked leb k l
-  found_ranked p = go (found (of_rank k l) l) refl (ranked leb k l) refl
+  -- what `find` says of the first value of rank k
+  abbrev pub Found : Held ℕ → Type 0
+  Found r = MatchOption r (AllWithin (λ v. has_rank k v l ≡ false) l 0 (length l)) (λ v. (has_rank k v l ≡ true) × (i : ℕ) × (i < length l) × HoldsAt (λ y. y ≡ v) l i × AllWithin (λ w. has_rank k w l ≡ false) l 0 i)
+
+  found_ranked : (0 < k) ⊎ (l ≡ []) → (r : Held ℕ) → Found r → option_of r ≡ ranked leb k l
+  found_ranked p (Some v) h = sym (rank_found k v l (tested v h.0))
+  found_ranked (inr e) None h = sym (ap (ranked leb k) e ∙ ranked_none leb k)
+  found_ranked (inl p) None h = go (ranked leb k l) refl
     where
-      go : (o : Option ℕ) → found (of_rank k l) l ≡ o → (r : Option ℕ) → ranked leb k l ≡ r → o ≡ r
-      go (some v) e r f = sym (rank_found k v l (tested v (found_passes (of_rank k l) l e))) ∙ f
-      go none e none f = refl
-      go none e (some v) f = absurd (found_fails (of_rank k l) l (ranked_one leb k l f) (holds v (found_rank k v l p f)) e)
+      go : (r : Option ℕ) → ranked leb k l ≡ r → none ≡ r
+      go none e = refl
+      go (some v) e = absurd (true≢false (sym (holds v (found_rank k v l p e)) ∙ members_all {P = λ v. has_rank k v l ≡ false} (all_at_places l h) (ranked_one leb k l e)))
 
--- the middle one
-pub median_chosen : (os : List (Option ℕ)) → found (of_rank ((length (present os) + 1) / 2) (present os)) (present os) ≡ chosen rounded 3 os
+pub middle_found : (os : List (Option ℕ)) (k : ℕ) → k ≡ (length (present os) + 1) / 2 → (r : Held ℕ) → Found k (present os) r → option_of r ≡ chosen rounded 3 os
 unfolding chosen rank_of
-median_chosen os = go (present os)
+middle_found os k e r h = found_ranked k (present os) (some_rank (present os) refl) r h ∙ ap (λ n. ranked leb n (present os)) e
   where
-    go : (l : List ℕ) → found (of_rank ((length l + 1) / 2) l) l ≡ ranked leb ((length l + 1) / 2) l
-    go [] = nothing_found (of_rank 0 []) ∙ sym (ranked_none leb 0)
-    go (x ∷ l) = found_ranked ((suc (length l) + 1) / 2) (x ∷ l) (omega arith)
+    some_rank : (l : List ℕ) → present os ≡ l → (0 < k) ⊎ (present os ≡ [])
+    some_rank [] f = inr f
+    some_rank (x ∷ l) f = let g = ap length f in inl (omega arith)
 
--- which is the choice where it is neither of the extremes
-pub any_other_choice : (choice : ℕ) (os : List (Option ℕ)) → (choice ≡ 1 → ⊥) → (choice ≡ 2 → ⊥) → chosen rounded choice os ≡ chosen rounded 3 os
+-- the lowest and the highest
+picked_in : (pick : ℕ → ℕ → ℕ) → ((a b : ℕ) → (pick a b ≡ a) ⊎ (pick a b ≡ b)) → (a : ℕ) (l : List ℕ) → Memᴰ (fold pick a l) (a ∷ l)
+picked_in pick h a [] = Memᴰ.head refl
+picked_in pick h a (b ∷ l) =
+    ⊎_elim (λ e. ⊎_elim (λ f. Memᴰ.head (e ∙ f)) (λ f. Memᴰ.tail (Memᴰ.head (e ∙ f))) (h a b)) (λ m. Memᴰ.tail (Memᴰ.tail m)) (Memᴰ.cases_cons (picked_in pick h (pick a b) l))
+
+lower : (a b : ℕ) → (min a b ≡ a) ⊎ (min a b ≡ b)
+lower a b = elim (dec_le a b) [ yes h ↦ inl (min-eq_left h) | no h ↦ inr (min-eq_right (le_of_lt (lt_of_not-le h))) ]
+
+higher : (a b : ℕ) → (max a b ≡ a) ⊎ (max a b ≡ b)
+higher a b = elim (dec_le a b) [ yes h ↦ inr (max-eq_right h) | no h ↦ inl (max-eq_left (le_of_lt (lt_of_not-le h))) ]
+
+least : (a : ℕ) (l : List ℕ) → All (λ x. fold min a l ≤ x) (a ∷ l)
+least a [] = and_all (omega arith) none_left
+least a (b ∷ l) = go (least (min a b) l)
+  where
+    go : {r : ℕ} → All (λ x. r ≤ x) (min a b ∷ l) → All (λ x. r ≤ x) (a ∷ b ∷ l)
+    go (and_all h k) = and_all (omega arith) (and_all (omega arith) k)
+
+most : (a : ℕ) (l : List ℕ) → All (λ x. x ≤ fold max a l) (a ∷ l)
+most a [] = and_all (omega arith) none_left
+most a (b ∷ l) = go (most (max a b) l)
+  where
+    go : {r : ℕ} → All (λ x. x ≤ r) (max a b ∷ l) → All (λ x. x ≤ r) (a ∷ b ∷ l)
+    go (and_all h k) = and_all (omega arith) (and_all (omega arith) k)
+
+same_option : (r : Held ℕ) → option_of r ≡ option_of (option_map (λ x. x) r)
+same_option None = refl
+same_option (Some v) = refl
+
+pub lowest_found : (os : List (Option ℕ)) (r : Held ℕ) → option_map (λ x. x) r ≡ reduce min (present os) → option_of r ≡ chosen rounded 1 os
 unfolding chosen rank_of
-any_other_choice choice os f g = rw (ne_eqb choice 1 f, ne_eqb choice 2 g)
+lowest_found os r e = same_option r ∙ ap option_of e ∙ go (present os)
+  where
+    go : (l : List ℕ) → option_of (reduce min l) ≡ ranked leb 1 l
+    go [] = sym (ranked_none leb 1)
+    go (x ∷ l) = sym (lowest_ranked (fold min x l) (picked_in min lower x l) (least x l))
 
--- a walk that looks for it
-pub found_next : (k : ℕ) (l : List ℕ) (o : Option ℕ) (os : List (Option ℕ)) → found (of_rank k l) (present (o ∷ os)) ≡ cond (has_rank k o l) o (found (of_rank k l) (present os))
-unfolding found present
-found_next k l none os = refl
-found_next k l (some v) os = refl
+pub highest_found : (os : List (Option ℕ)) (r : Held ℕ) → option_map (λ x. x) r ≡ reduce max (present os) → option_of r ≡ chosen rounded 2 os
+unfolding chosen rank_of
+highest_found os r e = same_option r ∙ ap option_of e ∙ go (present os)
+  where
+    go : (l : List ℕ) → option_of (reduce max l) ≡ ranked leb (length l) l
+    go [] = sym (ranked_none leb 0)
+    go (x ∷ l) = sym (highest_ranked (fold max x l) (picked_in max higher x l) (most x l))
 
--- counts over what stands in memory
-module _ (x : ℕ) (xs : List ℕ) where
-  abbrev rest : List ℕ
-  rest = present (map base_of xs)
-
-  skipped : x ≡ no_value_mark → present (map base_of (x ∷ xs)) ≡ rest
-  unfolding present
-  skipped e = ap (λ o. present (o ∷ map base_of xs)) (base_none x e)
-
-  kept : base_of x ≡ some x → present (map base_of (x ∷ xs)) ≡ x ∷ rest
-  unfolding present
-  kept e = ap (λ o. present (o ∷ map base_of xs)) e
-
-  pub one_value : {n : ℕ} → n ≡ cond (not (eqb x no_value_mark)) 1 0 → n + length rest ≡ length (present (map base_of (x ∷ xs)))
-  one_value {n} f =
-      ⊎_elim (λ e. omega (arith, f ∙ ap (λ b. cond (not b) 1 0) (eq-eqb x no_value_mark e), ap length (skipped e)))
-      (λ e. omega (arith, f ∙ ap (λ b. cond (not b) 1 0) (ne_eqb x no_value_mark e.0), ap length (kept e.1))) (seen x)
-
-  pub one_below : (v : ℕ) {n : ℕ} → n ≡ cond (ltb x v) 1 0 → n + below v xs ≡ below v (x ∷ xs)
-  one_below v {n} f =
-      elim (dec_le v x) [
-        | yes h ↦ omega (arith, f ∙ ap (λ b. cond b 1 0) (le-ltb x v h), below_not v x xs h)
-        | no h ↦ omega (arith, f ∙ ap (λ b. cond b 1 0) (lt-ltb x v (lt_of_not-le h)), below_smaller v x xs (lt_of_not-le h))
-      ]
-
--- no mark is below a value
-pub below_values : (v : ℕ) → v ≤ no_value_mark → (xs : List ℕ) → below v xs ≡ below v (present (map base_of xs))
-unfolding present
-below_values v h [] = refl
-below_values v h (x ∷ xs) =
-    ⊎_elim (λ e. below_not v x xs (omega arith) ∙ below_values v h xs ∙ ap (below v) (sym (skipped x xs e)))
-    (λ e. elim (dec_le v x) [
-      | yes g ↦ below_not v x xs g ∙ below_values v h xs ∙ sym (below_not v x (present (map base_of xs)) g) ∙ ap (below v) (sym (kept x xs e.1))
-      | no g ↦ let l = lt_of_not-le g in below_smaller v x xs l ∙ ap suc (below_values v h xs) ∙ sym (below_smaller v x (present (map base_of xs)) l) ∙ ap (below v) (sym (kept x xs e.1))
-    ]) (seen x)
+-- the number for it in memory
+pub marked : (r : Held ℕ) → unwrap_or r no_value_mark ≡ base_mark (option_of r)
+unfolding base_mark
+marked None = refl
+marked (Some v) = refl

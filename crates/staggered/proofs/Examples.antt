@@ -23,7 +23,7 @@ use Rattle.minima.specs.TurningPoints.{turns, middle_turns, counting, turning_po
 use Rattle.minima.specs.Line.{straight, between, line_on, line, line_over}
 use Rattle.minima.specs.Call.{blocks_at, out_of_range, has_two, any_of, no_line}
 use Rattle.staggered.specs.Rule.{lines, present, rank_of, chosen, staggered}
-use Rattle.staggered.specs.Call.{bad_setting, work_differs, all_of, no_lines, staggered_causes, work_list}
+use Rattle.staggered.specs.Call.{bad_setting, work_differs, no_lines, staggered_causes, work_list}
 
 abbrev of : (N : ℕ) → LineSetting
 of N = record { block_days = N; factor = 9000 }
@@ -102,7 +102,7 @@ ranks = refl
 no_line_lem :
     no_lines (of 2) river ∷ no_line (blocks_at (of 2) 0) shifted ∷ no_line (blocks_at (of 2) 1) shifted ∷ no_lines (of 2) shifted ∷ []
     ≡ true ∷ true ∷ false ∷ false ∷ []
-unfolding river shifted block_start block_count block lowest earliest minimum_flow minimum_day turns middle_turns counting selected turning_points has_two any_of no_line parts all_of no_lines
+unfolding river shifted block_start block_count block lowest earliest minimum_flow minimum_day turns middle_turns counting selected turning_points has_two any_of no_line parts no_lines
 no_line_lem = refl
 
 -- Choices 0 and 4 and N 31 are 16, whatever the lists; then base lists that are too short, work lists one too short and one
@@ -123,7 +123,7 @@ refusals :
     ∷ first 1 3 (10 ∷ 8 ∷ 10 ∷ 20 ∷ 9 ∷ 30 ∷ []) (replicate 6 0) (replicate 6 0)
     ∷ []
     ≡ some 16 ∷ some 16 ∷ some 16 ∷ some 14 ∷ some 25 ∷ some 25 ∷ some 25 ∷ some 10 ∷ some 17 ∷ none ∷ []
-unfolding staggered_causes bad_setting out_of_range within too_long lengths_differ work_differs any_invalid_day is_invalid_day day_of block_start block_count block lowest earliest minimum_flow minimum_day turns middle_turns counting selected turning_points has_two any_of no_line parts all_of no_lines
+unfolding staggered_causes bad_setting out_of_range within too_long lengths_differ work_differs any_invalid_day is_invalid_day day_of block_start block_count block lowest earliest minimum_flow minimum_day turns middle_turns counting selected turning_points has_two any_of no_line parts no_lines
 refusals = refl
 
 -- the work list of the river `two`: shift 0, then shift 1

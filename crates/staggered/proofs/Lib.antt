@@ -1,7 +1,7 @@
 mod Sentences
 mod Columns
 mod Choosing
-mod Walks
+mod Chains
 mod Distance
 mod Loops
 mod Calls

@@ -34,7 +34,8 @@ use Rattle.minima.specs.Call.{blocks_at, blocks_of, no_line}
 use Rattle.minima.proofs.Lengths.{counting_length, counting_at, counting_more, counting_none, line_over_length}
 use Rattle.minima.proofs.Sentences.{blocks_begin}
 use Rattle.staggered.specs.Rule.{lines, on_day, present, rank_of, chosen, staggered}
-use Rattle.staggered.specs.Call.{all_of, no_lines, StaggeredWithin}
+use Rattle.std.specs.List.{list_all}
+use Rattle.staggered.specs.Call.{no_lines, StaggeredWithin}
 use Rattle.staggered.proofs.Distance.{staggered_within}
 
 -- the lines
@@ -133,18 +134,16 @@ module _ (s : LineSetting) (days : List (Option ℕ)) where
   abbrev Nowhere : Type 0
   Nowhere = (o : ℕ) → o < s.block_days → no_line (blocks_at s o) days ≡ true
 
-  each : (k n : ℕ) → all_of (λ o. no_line (blocks_at s o) days) (counting k n) ≡ true → (o : ℕ) → k ≤ o → o < k + n → no_line (blocks_at s o) days ≡ true
-  unfolding all_of
+  each : (k n : ℕ) → list_all (λ o. no_line (blocks_at s o) days) (counting k n) ≡ true → (o : ℕ) → k ≤ o → o < k + n → no_line (blocks_at s o) days ≡ true
   each k zero e o g h = absurd (omega arith)
   each k (suc n) e o g h =
-      let b = both_of _ _ (rw counting_more at e) in
+      let b = both_of (no_line (blocks_at s k) days) (list_all (λ o. no_line (blocks_at s o) days) (counting (suc k) n)) (rw counting_more at e) in
       elim (dec_le o k) [
         | yes l ↦ (let same : k ≡ o = omega arith in subst (λ x. no_line (blocks_at s x) days ≡ true) same b.0)
         | no l ↦ each (suc k) n b.1 o (lt_of_not-le l) (omega arith)
       ]
 
-  all : (k n : ℕ) → ((o : ℕ) → k ≤ o → o < k + n → no_line (blocks_at s o) days ≡ true) → all_of (λ o. no_line (blocks_at s o) days) (counting k n) ≡ true
-  unfolding all_of
+  all : (k n : ℕ) → ((o : ℕ) → k ≤ o → o < k + n → no_line (blocks_at s o) days ≡ true) → list_all (λ o. no_line (blocks_at s o) days) (counting k n) ≡ true
   all k zero f = rw counting_none
   all k (suc n) f = rw (counting_more, f k (omega arith) (omega arith)) (all (suc k) n (λ o g h. f o (omega arith) (omega arith)))
 

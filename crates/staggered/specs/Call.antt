@@ -1,5 +1,6 @@
 -- The staggered call: its order of refusals, the lists that it leaves, and what it promises of them.
-use Rattle.std.specs.Prelude.{ℕ, ◌*◌, Bool, true, not, ◌&&◌, ◌||◌, eqb, length}
+use Rattle.std.specs.Prelude.{ℕ, ◌*◌, Bool, not, ◌||◌, eqb, length}
+use Rattle.std.specs.List.{list_all}
 use mathlib.Core.List.{List, [], ◌∷◌, map, flat_map}
 use Rattle.std.proofs.Math.Option.{Option, none, some}
 use Rattle.numbers.specs.Fraction.{half}
@@ -21,15 +22,9 @@ bad_setting s choice = out_of_range s || not (within 1 3 choice)
 unfoldable pub work_differs : LineSetting → (days work : List ℕ) → Bool
 work_differs s days work = not (eqb (s.block_days * length days) (length work))
 
--- a test that all of several pass
-unfoldable pub all_of : {A : Type 0} → (A → Bool) → List A → Bool
-all_of test [] = true
-all_of test (x ∷ xs) = test x && all_of test xs
-
 -- 17: no shift has a line
 unfoldable pub no_lines : LineSetting → List (Option ℕ) → Bool
-unfolding all_of
-no_lines s days = all_of (λ o. no_line (blocks_at s o) days) (shifts s)
+no_lines s days = list_all (λ o. no_line (blocks_at s o) days) (shifts s)
 
 -- order: staggered 16, 9, 14, 25, 10, 17
 unfoldable pub staggered_causes : LineSetting → (choice : ℕ) → (days base work : List ℕ) → List Cause

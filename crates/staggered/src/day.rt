@@ -1,122 +1,95 @@
-// The values of one day in the work list: of `lines` lines, each `days` long and one behind the other, those of day t.
-ghost use Rattle.std.specs.Prelude.{◌≡◌, cond, ◌≤◌, length};
-ghost use Rattle.numbers.specs.Arithmetic.{rounded};
-ghost use Rattle.series.specs.Units.{base_of, base_mark};
-ghost use Rattle.staggered.specs.Rule.{chosen};
-ghost use Rattle.staggered.specs.Private.{shown_on, values_on, Placed, merged, pick_of, up_of, has_rank};
+// What the lines have on one day: a value, or none.
+ghost use Rattle.std.specs.Prelude.{◌≡◌, ◌<◌, eqb, not};
+ghost use Rattle.series.specs.Units.{no_value_mark};
 
-// One more than a value, and 0 for none.
-fn above(value: u64) -> u64
-    ensures { result ≡ up_of (base_of value) }
-{
-    if value == series::NO_VALUE {
-        return 0;
-    }
-    value + 1
+use crate::Choice;
+
+// The lines' base values on day t, line after line, with the mark where a line has none. The lines stand in the work list
+// one behind the other, each as many days long.
+#[derive(Clone, Copy)]
+// Kept: a type of its own, since `chunks_exact(days).map(..)` has a closure in its type, which no struct and no method can name.
+pub(crate) struct DayValues<'a> {
+    lines: &'a [u64],
+    days: usize,
+    t: usize,
+    ghost inside: { t < days },
 }
 
-// Of two, where one or both may be none, the lower value or the higher.
-fn better(highest: bool, a: u64, b: u64) -> u64
-    ensures { base_of result ≡ merged (pick_of highest) (base_of a) (base_of b) }
-{
-    if highest {
-        return if above(a) < above(b) { b } else { a };
+impl Iterator for DayValues<'_> {
+    type Item = u64;
+
+    ghost use Rattle.std.specs.Iterator.{YieldsFirst, item_count};
+    ghost use Rattle.staggered.specs.Private.{numbers_of};
+
+    ghost next_gives = { YieldsFirst numbers_of };
+
+    ghost remaining = { item_count numbers_of };
+
+    fn next(&mut self) -> Option<u64> {
+        let (line, behind) = self.lines.split_at_checked(self.days)?;
+        self.lines = behind;
+        Some(line[self.t])
     }
-    if b < a { b } else { a }
 }
 
-// The lowest of a day's values, or the highest.
-fn extreme(highest: bool, work: &[u64], lines: usize, days: usize, t: usize) -> u64
-    requires { Placed work.now lines days t }
-    ensures { result ≡ base_mark (chosen rounded (cond highest 2 1) (shown_on work.now days t lines)) }
+// A number of the work list is a value, and not the mark.
+fn is_value(number: &u64) -> bool
+    ensures { result ≡ not (eqb number.now no_value_mark) }
 {
-    let mut best = series::NO_VALUE;
-    let mut o = 0;
-    let mut at = t;
-    while o < lines {
-        best = better(highest, best, work[at]);
-        o += 1;
-        at += days;
-    }
-    best
+    *number != series::NO_VALUE
 }
 
-// 1 where a test holds, else 0.
-fn one_if(holds: bool) -> usize
-    ensures { (result ≡ cond holds 1 0) × (result ≤ 1) }
-{
-    if holds { 1 } else { 0 }
-}
+impl<'a> DayValues<'a> {
+    ghost use Rattle.std.specs.Prelude.{ℕ, Bool, length, ◌^◌};
+    ghost use Rattle.std.specs.List.{filter};
+    ghost use Rattle.std.specs.Iterator.{ActsAsAt};
+    ghost use Rattle.numbers.specs.Arithmetic.{rounded};
+    ghost use Rattle.series.specs.Units.{base_of, base_mark};
+    ghost use Rattle.staggered.specs.Rule.{chosen};
+    ghost use Rattle.staggered.specs.Private.{numbers_of, shown_on, shown_by, values_of, has_rank, number_of, option_of};
 
-// How many values a day has.
-fn count(work: &[u64], lines: usize, days: usize, t: usize) -> usize
-    requires { Placed work.now lines days t }
-    ensures { result ≡ length (values_on work.now days t lines) }
-{
-    let mut values = 0;
-    let mut o = 0;
-    let mut at = t;
-    while o < lines {
-        values += one_if(work[at] != series::NO_VALUE);
-        o += 1;
-        at += days;
+    pub(crate) fn new(lines: &'a [u64], days: usize, t: usize) -> Self
+        requires { t < days }
+        ensures { shown_by result ≡ shown_on lines.now days t }
+    {
+        DayValues { lines, days, t }
     }
-    values
-}
 
-// Whether v is a value of rank k: fewer than k of the day's are smaller, and at least k are at most v.
-fn has_rank(k: usize, v: u64, work: &[u64], lines: usize, days: usize, t: usize) -> bool
-    requires { Placed work.now lines days t }
-    ensures { result ≡ has_rank k (base_of v) (values_on work.now days t lines) }
-{
-    if v == series::NO_VALUE {
-        return false;
+    // How many of the day's numbers pass a test.
+    #[tactic(auto, using(crate::proofs::Columns::column_few))]
+    fn count<F: FnMut(&u64) -> bool>(self, passes: F) -> usize
+        requires { (test : _) (number : _) → F.pre test number }
+        ensures number { (test : ℕ → Bool) → ActsAsAt F.FnMut passes test → result ≡ length (filter test (numbers_of self.entry)) }
+        ensures few { result < 2 ^ 61 }
+    {
+        self.filter(passes).count()
     }
-    let mut smaller = 0;
-    let mut up_to = 0;
-    let mut o = 0;
-    let mut at = t;
-    while o < lines {
-        smaller += one_if(work[at] < v);
-        up_to += one_if(work[at] <= v);
-        o += 1;
-        at += days;
-    }
-    if smaller < k {
-        return k <= up_to;
-    }
-    false
-}
 
-// The middle one of a day's values, and of two middle ones the lower.
-fn median(work: &[u64], lines: usize, days: usize, t: usize) -> u64
-    requires { Placed work.now lines days t }
-    ensures { result ≡ base_mark (chosen rounded 3 (shown_on work.now days t lines)) }
-{
-    let k = (count(work, lines, days, t) + 1) / 2;
-    let mut o = 0;
-    let mut at = t;
-    while o < lines {
-        let v = work[at];
-        if has_rank(k, v, work, lines, days, t) {
-            return v;
-        }
-        o += 1;
-        at += days;
+    // Whether v is a value of rank k: fewer than k of the day's are smaller, and at least k are at most v.
+    fn has_rank(self, k: usize, v: u64) -> bool
+        requires { v < no_value_mark }
+        ensures { result ≡ has_rank k v (values_of self.entry) }
+    {
+        self.count(|x| *x < v) < k && k <= self.count(|x| *x <= v)
     }
-    series::NO_VALUE
-}
 
-// The chosen value of a day.
-pub(crate) fn chosen(choice: u32, work: &[u64], lines: usize, days: usize, t: usize) -> u64
-    requires { Placed work.now lines days t }
-    ensures { result ≡ base_mark (chosen rounded choice (shown_on work.now days t lines)) }
-{
-    if choice == 1 {
-        return extreme(false, work, lines, days, t);
+    // The middle one of the values, and of two middle ones the lower.
+    fn median(self) -> Option<u64>
+        ensures { option_of result ≡ chosen rounded 3 (shown_by self.entry) }
+    {
+        let k = (self.count(is_value) + 1) / 2;
+        self.filter(is_value).find(|v| self.has_rank(k, *v))
     }
-    if choice == 2 {
-        return extreme(true, work, lines, days, t);
+
+    // The chosen value, or the mark where no line has one.
+    pub(crate) fn chosen(self, choice: Choice) -> u64
+        ensures { result ≡ base_mark (chosen rounded (number_of choice) (shown_by self.entry)) }
+    {
+        let value = match choice {
+            Choice::Lowest => self.filter(is_value).min(),
+            Choice::Highest => self.filter(is_value).max(),
+            Choice::Median => self.median(),
+        };
+        value.unwrap_or(series::NO_VALUE)
     }
-    median(work, lines, days, t)
 }

@@ -4,100 +4,107 @@
 
 mod day;
 
-ghost use Rattle.std.specs.Prelude.{◌≡◌, map, length};
+ghost use Rattle.std.specs.Prelude.{◌≡◌, map, length, IfOk};
 ghost use Rattle.series.specs.Units.{day_of};
-ghost use Rattle.series.specs.Causes.{refusal_of, first_cause, Decides};
-ghost use Rattle.staggered.specs.Call.{bad_setting, work_differs, no_lines, staggered_causes, work_list, base_leaves, work_leaves, Promised};
-ghost use Rattle.staggered.specs.Private.{chosen_from, Sized, list_causes};
+ghost use Rattle.series.specs.Causes.{refusal_of, first_cause};
+ghost use Rattle.staggered.specs.Call.{work_differs, no_lines, staggered_causes, work_list, base_leaves, work_leaves, Promised};
+ghost use Rattle.staggered.specs.Private.{ReadsChoice, number_of, chosen_from, Sized, first_causes};
 
+use day::DayValues;
 use minima::LineSetting;
-use series::{Refusal, Verdict, lengths_differ, refuse_if};
+use series::{Refusal, refuse_if};
 
-// 16: N, g or the choice lies outside its range.
-fn bad_setting(setting: LineSetting, choice: u32) -> bool
-    ensures { result ≡ bad_setting setting choice }
-{
-    if minima::out_of_range(setting) {
-        return true;
-    }
-    !series::within(1, 3, choice)
+// Which of a day's values is chosen.
+#[derive(Clone, Copy, Debug, PartialEq, Eq)]
+enum Choice {
+    Lowest = 1,
+    Highest = 2,
+    Median = 3,
 }
 
-// 25: the work list is not N × the day list long. (The product itself might not fit.)
-fn work_differs(setting: LineSetting, days: &[u32], work: &[u64]) -> bool
-    ensures { result ≡ work_differs setting days.now work.now }
-{
-    let n = setting.block_days as usize;
-    if n == 0 {
-        return work.len() != 0;
-    }
-    if work.len() % n != 0 {
-        return true;
-    }
-    work.len() / n != days.len()
-}
+impl TryFrom<u32> for Choice {
+    type Error = Refusal;
 
-// 17: no shift has a line.
-fn no_lines(setting: LineSetting, days: &[u32]) -> bool
-    ensures { result ≡ no_lines setting (map day_of days.now) }
-{
-    let n = setting.block_days as usize;
-    let mut o = 0;
-    while o < n {
-        if !minima::no_shifted_line(setting, o, days) {
-            return false;
+    ghost try_from_gives = { ReadsChoice };
+
+    #[tactic(auto, using(std::proofs::lemmas::Bool::Decides::nat_tests), unfolding(series::specs::Units::within))]
+    fn try_from(number: u32) -> Result<Self, Refusal> {
+        match number {
+            1 => Ok(Choice::Lowest),
+            2 => Ok(Choice::Highest),
+            3 => Ok(Choice::Median),
+            _ => Err(Refusal::LineSettingOutOfRange),
         }
-        o += 1;
     }
-    true
 }
 
-// The checks before a line is looked for: 16, 9, 14, 25, 10.
-fn check(setting: LineSetting, choice: u32, days: &[u32], base: &[u64], work: &[u64]) -> Verdict
-    ensures { Decides (list_causes setting choice days.now base.now work.now) result }
-{
-    let v = Verdict::Accepted;
-    let v = refuse_if(
-        v,
-        bad_setting(setting, choice),
-        Refusal::LineSettingOutOfRange,
-    );
-    let v = refuse_if(v, series::too_long(days), Refusal::DayListTooLong);
-    let v = refuse_if(v, lengths_differ(days, base), Refusal::LengthsDiffer);
-    let v = refuse_if(
-        v,
-        work_differs(setting, days, work),
-        Refusal::WorkListLength,
-    );
-    refuse_if(v, series::any_invalid_day(days), Refusal::InvalidDay)
+// The lines of a day list, one for each shift of the blocks.
+#[derive(Clone, Copy)]
+struct Shifts<'a> {
+    setting: LineSetting,
+    days: &'a [u32],
 }
 
-// The lines of all shifts, one behind the other.
-fn draw_lines(setting: LineSetting, days: &[u32], work: &mut [u64])
-    requires { Sized work.old setting.block_days (length days.now) }
-    ensures { work.new ≡ work_list setting days.now }
-{
-    let n = setting.block_days as usize;
-    let mut o = 0;
-    let mut at = 0;
-    while o < n {
-        let end = at + days.len();
-        minima::shifted_line(setting, o, days, &mut work[at..end]);
-        o += 1;
-        at = end;
+impl Shifts<'_> {
+    // 25: the work list is not N × the day list long. (A product that does not fit is no list's length.)
+    fn work_differs(&self, work: &[u64]) -> bool
+        ensures { result ≡ work_differs self.now.setting self.now.days.now work.now }
+    {
+        // Kept: `as`, here and below, since std has no From between u32 and usize, and TryFrom would add an error that never comes.
+        (self.setting.block_days as usize).checked_mul(self.days.len()) != Some(work.len())
+    }
+
+    // The checks before a line is looked for: 16, 9, 14, 25, 10; and the choice by its number.
+    #[tactic(auto, unfolding(crate::specs::Call::staggered_causes, crate::specs::Call::bad_setting))]
+    fn check(&self, choice: u32, base: &[u64], work: &[u64]) -> Result<Choice, Refusal>
+        ensures refusal { refusal_of result ≡ first_cause (first_causes self.now.setting choice self.now.days.now base.now work.now) }
+        ensures choice { IfOk result (λ c. choice ≡ number_of c) }
+    {
+        refuse_if(
+            minima::out_of_range(self.setting),
+            Refusal::LineSettingOutOfRange,
+        )?;
+        let choice = Choice::try_from(choice)?;
+        // Kept: not series::check_lists, since 25 stands between 14 and 10.
+        refuse_if(series::too_long(self.days), Refusal::DayListTooLong)?;
+        refuse_if(
+            series::lengths_differ(self.days, base),
+            Refusal::LengthsDiffer,
+        )?;
+        refuse_if(self.work_differs(work), Refusal::WorkListLength)?;
+        refuse_if(series::any_invalid_day(self.days), Refusal::InvalidDay)?;
+        Ok(choice)
+    }
+
+    // 17: no shift has a line.
+    fn no_lines(&self) -> bool
+        ensures { result ≡ no_lines self.now.setting (map day_of self.now.days.now) }
+    {
+        let has_none = |o| minima::no_shifted_line(self.setting, o, self.days);
+        (0..self.setting.block_days as usize).all(has_none)
+    }
+
+    // Draws the lines, one behind the other.
+    fn draw(&self, work: &mut [u64])
+        requires { Sized work.old self.now.setting.block_days (length self.now.days.now) }
+        ensures { work.new ≡ work_list self.now.setting self.now.days.now }
+    {
+        // Kept: slices by their place, since behind `chunks_exact_mut` a proof knows nothing of what was written.
+        for o in 0..self.setting.block_days as usize {
+            let start = o * self.days.len();
+            let line = &mut work[start..start + self.days.len()];
+            minima::shifted_line(self.setting, o, self.days, line);
+        }
     }
 }
 
 // The chosen value of each day.
-fn choose(choice: u32, work: &[u64], lines: usize, base: &mut [u64])
-    requires { Sized work.now lines (length base.old) }
-    ensures { base.new ≡ chosen_from choice work.now lines (length base.old) }
+fn choose(choice: Choice, work: &[u64], base: &mut [u64])
+    ensures { base.new ≡ chosen_from choice work.now (length base.old) }
 {
     let days = base.len();
-    let mut t = 0;
-    while t < base.len() {
-        base[t] = day::chosen(choice, work, lines, days, t);
-        t += 1;
+    for (t, value) in base.iter_mut().enumerate() {
+        *value = DayValues::new(work, days, t).chosen(choice);
     }
 }
 
@@ -110,20 +117,16 @@ pub fn staggered(
     days: &[u32],
     base: &mut [u64],
     work: &mut [u64],
-) -> Verdict
+) -> Result<(), Refusal>
     ensures refusal { refusal_of result ≡ first_cause (staggered_causes setting choice days.now base.old work.old) }
     ensures base_list { base.new ≡ base_leaves setting choice days.now base.old work.old }
     ensures work_list { work.new ≡ work_leaves setting choice days.now base.old work.old }
     ensures error { Promised (refusal_of result) setting choice days.now }
 {
-    let verdict = check(setting, choice, days, base, work);
-    if let Verdict::Refused(refusal) = verdict {
-        return Verdict::Refused(refusal);
-    }
-    if no_lines(setting, days) {
-        return Verdict::Refused(Refusal::NoLine);
-    }
-    draw_lines(setting, days, &mut *work);
-    choose(choice, work, setting.block_days as usize, base);
-    Verdict::Accepted
+    let shifts = Shifts { setting, days };
+    let choice = shifts.check(choice, base, work)?;
+    refuse_if(shifts.no_lines(), Refusal::NoLine)?;
+    shifts.draw(&mut *work);
+    choose(choice, work, base);
+    Ok(())
 }

@@ -1,29 +1,28 @@
 -- The totals call by its causes: what it answers over lists that pass, and what an accepted answer says.
 -- Assumes nothing.
-use Prim.Native.Nat.{ℕ, ◌*◌, ◌≤◌, min}
+use Prim.Native.Nat.{ℕ, ◌*◌, ◌≤◌}
 use mathlib.Core.Path.{◌≡◌, refl, sym, ◌∙◌, ap, subst}
-use mathlib.Core.Bool.{false, true≢false}
-use mathlib.Core.List.{List}
-use mathlib.Core.Option.{none}
-use native.Mathlib.Nat.{pos_of_ne-zero, min-eq_left}
+use mathlib.Core.Bool.{true, false}
+use mathlib.Core.List.{List, [], ◌∷◌}
+use native.Mathlib.Nat.{pos_of_ne-zero}
 use native.Mathlib.Decide.{ℕ_discrete}
 use native.Mathlib.Omega.{arith}
-use lib.ListN.{length, take}
-use lib.Seq.{take_all}
+use lib.ListN.{length}
 use borrow.Author.Tests.{eq-eqb, ne_eqb}
+use Rattle.std.specs.Prelude.{Result, Ok, Err}
 use Rattle.numbers.specs.Near.{near}
 use Rattle.numbers.proofs.Rounding.{near_at_most, near_by_zero}
 use Rattle.series.specs.Units.{day_limit}
-use Rattle.series.specs.Lists.{too_long, lengths_differ, any_invalid_day, any_invalid_base}
-use Rattle.series.specs.Causes.{first_cause, accepted, refused}
-use Rattle.series.proofs.Refusing.{passed, outcome_accepted, outcome_was_accepted}
-use Rattle.series.proofs.Tests.{few_days, same_length}
+use Rattle.series.specs.Lists.{too_long, lengths_differ, any_invalid_day, any_invalid_base, list_causes}
+use Rattle.series.specs.declared.Refusal.{Refusal}
+use Rattle.series.specs.Causes.{refusal_number, cause, accepted, refused, Decides}
+use Rattle.series.proofs.Refusing.{holds_of, passed, decides_alone, decided_accepted, answer_refused, outcome_was_accepted}
+use Rattle.series.proofs.Tests.{few_days}
 use Rattle.totals.specs.declared.Totals.{Totals}
-use Rattle.totals.specs.declared.Found.{Found}
-use Rattle.totals.specs.declared.Found.TheVariants.{Sums, InvalidBase}
 use Rattle.totals.specs.Sums.{flow_total, quick_total, index}
 use Rattle.totals.specs.Call.{listed_days, no_flow, totals_causes, totals_of, totals_outcome}
-use Rattle.totals.specs.Private.{FoundIn, FoundInFront, Bounded, found_invalid, found_no_flow, outcome_found}
+use Rattle.totals.specs.declared.tally.Tally.{Tally}
+use Rattle.totals.specs.Private.{SumsOf, totals_from}
 use Rattle.totals.proofs.Summing.{base_at_most}
 
 -- the index is at most one
@@ -34,51 +33,47 @@ index_below a y {r} e h = by_flow (ℕ_discrete y 0)
     by_flow (yes z) = omega (arith, ap (near a) z, near_by_zero a)
     by_flow (no n) = omega (arith, near_at_most {n = 10000} (pos_of_ne-zero n) h)
 
--- the sums of valid lists overflow nothing
-pub bounded : (days base : List ℕ) (found : Found) → FoundIn days base found → Bounded found
-bounded days base (Sums t) k = (k.1.room, omega (arith, k.1.base, k.1.flow, base_at_most days base k.0))
-bounded days base InvalidBase k = tt
-
 module _ (days base : List ℕ) where
-  -- of lists that are not too long and of one length, the front is the whole
-  pub in_whole : (found : Found) → too_long days ≡ false → lengths_differ days base ≡ false → FoundInFront days base found → FoundIn days base found
-  in_whole found e d f =
-      let short = few_days days e in
-      let same = same_length days base d in
-      let n = min (min (length days) (length base)) day_limit in
-      let k : length days ≤ n = omega (arith, min-eq_left {n = length days} {m = length base} (omega arith), min-eq_left {n = length days} {m = day_limit} short) in
-      subst (λ b. FoundIn days b found) (take_all n base (omega (arith, k))) (subst (λ d. FoundIn d (take n base) found) (take_all n days k) f)
+  -- lists that pass the checks before the sums
+  module _ (few : too_long days ≡ false) (same : lengths_differ days base ≡ false) (valid : any_invalid_day days ≡ false) where
+    refuses_base : any_invalid_base days base ≡ true → totals_outcome days base ≡ refused 20
+    unfolding totals_outcome totals_causes
+    refuses_base e = simp (few, same, valid, e)
 
-  -- 20 and 21 by what was found
-  pub invalid_found : (found : Found) → FoundIn days base found → found_invalid found ≡ any_invalid_base days base
-  invalid_found (Sums t) k = sym k.0
-  invalid_found InvalidBase k = sym k
+    module _ (bases : any_invalid_base days base ≡ false) where
+      pub refuses_dry : flow_total (listed_days days base) ≡ 0 → totals_outcome days base ≡ refused 21
+      unfolding totals_outcome totals_causes no_flow
+      refuses_dry e = simp (few, same, valid, bases, eq-eqb (flow_total (listed_days days base)) 0 e)
 
-  pub no_flow_found : (found : Found) → any_invalid_base days base ≡ false → FoundIn days base found → found_no_flow found ≡ no_flow days base
-  unfolding no_flow
-  no_flow_found (Sums t) e k = rw k.1.flow
-  no_flow_found InvalidBase e k = absurd (true≢false (sym k ∙ e))
+      pub accepts_flow : (flow_total (listed_days days base) ≡ 0 → ⊥) → totals_outcome days base ≡ accepted (totals_of (listed_days days base))
+      unfolding totals_outcome totals_causes no_flow
+      accepts_flow n = simp (few, same, valid, bases, ne_eqb (flow_total (listed_days days base)) 0 n)
 
-  -- what was found is what an accepted call answers
-  pub answered : (found : Found) → FoundInFront days base found → first_cause (totals_causes days base) ≡ none → outcome_found found ≡ totals_outcome days base
-  unfolding totals_causes totals_outcome totals_of quick_total index
-  answered found f e =
-      let p = passed (totals_causes days base) e in
-      by_found found (in_whole found (p 9) (p 14) f) (p 20) ∙ sym (outcome_accepted (totals_causes days base) _ e)
-    where
-      by_found : (g : Found) → FoundIn days base g → any_invalid_base days base ≡ false → outcome_found g ≡ accepted (totals_of (listed_days days base))
-      by_found (Sums t) k h = rw (k.1.days, k.1.flow, k.1.base)
-      by_found InvalidBase k h = absurd (true≢false (sym k ∙ h))
+  -- what the call answers where the check of the lists refuses
+  pub lists_refuse : {v : Result Unit Refusal} {r : Refusal} → Decides (list_causes days base) v → v ≡ Err r → refused (refusal_number r) ≡ totals_outcome days base
+  unfolding list_causes totals_causes totals_outcome
+  lists_refuse d e = answer_refused (decides_alone (cause (any_invalid_base days base) 20 ∷ cause (no_flow days base) 21 ∷ []) d e) (totals_of (listed_days days base)) refl
 
-  -- lists that pass every check but 21
-  module _ (few : too_long days ≡ false) (same : lengths_differ days base ≡ false) (valid : any_invalid_day days ≡ false) (bases : any_invalid_base days base ≡ false) where
-    pub refuses_dry : flow_total (listed_days days base) ≡ 0 → totals_outcome days base ≡ refused 21
-    unfolding totals_outcome totals_causes no_flow
-    refuses_dry e = simp (few, same, valid, bases, eq-eqb (flow_total (listed_days days base)) 0 e)
+  -- and behind it
+  module _ {v : Result Unit Refusal} (d : Decides (list_causes days base) v) (e : v ≡ Ok tt) where
+    passes : (n : ℕ) → holds_of n (list_causes days base) ≡ false
+    passes = passed (list_causes days base) (decided_accepted d e)
 
-    pub accepts_flow : (flow_total (listed_days days base) ≡ 0 → ⊥) → totals_outcome days base ≡ accepted (totals_of (listed_days days base))
-    unfolding totals_outcome totals_causes no_flow
-    accepts_flow n = simp (few, same, valid, bases, ne_eqb (flow_total (listed_days days base)) 0 n)
+    pub short : length days ≤ day_limit
+    unfolding list_causes
+    short = few_days days (passes 9)
+
+    pub found_invalid : any_invalid_base days base ≡ true → refused 20 ≡ totals_outcome days base
+    unfolding list_causes
+    found_invalid h = sym (refuses_base (passes 9) (passes 14) (passes 10) h)
+
+    pub found_dry : any_invalid_base days base ≡ false → flow_total (listed_days days base) ≡ 0 → refused 21 ≡ totals_outcome days base
+    unfolding list_causes
+    found_dry h z = sym (refuses_dry (passes 9) (passes 14) (passes 10) h z)
+
+    pub found_flow : {t : Tally} → any_invalid_base days base ≡ false → SumsOf (listed_days days base) t → (t.flow ≡ 0 → ⊥) → {r : Totals} → r ≡ totals_from t → accepted r ≡ totals_outcome days base
+    unfolding list_causes totals_of quick_total index
+    found_flow h f n r = sym (accepts_flow (passes 9) (passes 14) (passes 10) h (λ z. n (f.flow ∙ z)) ∙ ap accepted (rw (r, f.days, f.flow, f.base) refl))
 
   -- an accepted answer's index
   pub index_at_most : {t : Totals} → totals_outcome days base ≡ accepted t → t.index ≤ 10000

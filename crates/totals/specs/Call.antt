@@ -3,11 +3,9 @@ use Rattle.std.specs.Prelude.{ℕ, Bool, List, [], ◌∷◌, map, length, eqb}
 use Rattle.numbers.specs.Arithmetic.{rounded}
 use Rattle.series.specs.Units.{day_of, base_of}
 use Rattle.series.specs.Lists.{too_long, lengths_differ, any_invalid_day, any_invalid_base}
-use Rattle.series.specs.Causes.{Cause, cause, Outcome, accepted, refused, outcome, refusal_number}
+use Rattle.series.specs.Causes.{Cause, cause, Outcome, outcome}
 use Rattle.totals.specs.Sums.{BaseDay, base_days, flow_total, base_total, quick_total, index}
 use Rattle.totals.specs.declared.Totals.{Totals}
-use Rattle.totals.specs.declared.Answer.{Answer}
-use Rattle.totals.specs.declared.Answer.TheVariants.{Summed, Refused}
 
 -- the days with a base value of two lists in memory
 abbrev pub listed_days : (days base : List ℕ) → List (BaseDay ℕ)
@@ -40,8 +38,3 @@ totals_of ds =
 
 unfoldable pub totals_outcome : (days base : List ℕ) → Outcome Totals
 totals_outcome days base = outcome (totals_causes days base) (totals_of (listed_days days base))
-
--- document 01's values, or its number, for each case of the call's answer
-abbrev pub outcome_of : Answer → Outcome Totals
-outcome_of (Summed t) = accepted t
-outcome_of (Refused r) = refused (refusal_number r)

@@ -39,7 +39,8 @@ use Rattle.totals.specs.Call.{no_flow, totals_causes, totals_outcome}
 use Rattle.series.specs.Runs.{joined, further, runs_from}
 use Rattle.recession.specs.Limbs.{at_base, limb_day, limb_days, has_at_least, limbs, counted}
 use Rattle.recession.specs.Ratios.{pair_ratios, limb_ratios, median}
-use Rattle.recession.specs.Call.{no_ratio, limb_list_too_short, counted_limbs, counted_ratios, ratio_causes, Statistics, ratio_outcome}
+use Rattle.recession.specs.Call.{no_ratio, limb_list_too_short, counted_limbs, counted_ratios, ratio_causes, ratio_outcome}
+use Rattle.recession.specs.declared.Statistics.{Statistics}
 
 -- whether two results are the same
 abbrev same_value : Option ℕ → Option ℕ → Bool

@@ -1,16 +1,12 @@
 -- `numbers::near` meets its contract: the remainder says on which side of the half a / b lies.
 use mathlib.Core.Path.{sym, ap, ◌∙◌}
 use native.Mathlib.Nat.{pos_of_ne-zero}
-use native.Mathlib.Omega.{arith}
 use Rattle.numbers.specs.Near.{near}
-use Rattle.numbers.proofs.Rounding.{near_by_zero, near_down, near_up, up_fits}
+use Rattle.numbers.proofs.Rounding.{near_by_zero, near_down, near_up}
 use Rattle.numbers.proofs.near.Goals as goal
 
 pub returns-then-b-eq0 : goal.returns-then-b-eq0
 returns-then-b-eq0 c = sym (ap (near c.args.a) c.if-b-eq0.true ∙ near_by_zero c.args.a)
-
-pub overflow_add-result : goal.overflow_add-result
-overflow_add-result c = omega (arith, c.ranges, up_fits c.args.a c.args.b (pos_of_ne-zero c.if-b-eq0.false) c.if-b-r.true)
 
 pub returns-then-b-r : goal.returns-then-b-r
 returns-then-b-r c = sym (near_up c.args.a c.args.b (pos_of_ne-zero c.if-b-eq0.false) c.if-b-r.true)

@@ -24,7 +24,7 @@ module _ (h b : ℕ) (p : 0 < b) (a loss : ℕ) (e : h ≡ a + b / 2 - loss) whe
       ]
 
 pub returns-then-h-b : goal.returns-then-h-b
-returns-then-h-b c a loss e = last-bit-taken c.args.h c.args.b c.requires a loss e c.if-h-b.true
+returns-then-h-b c a loss e = ap (λ k. c.args.h / c.args.b - k) c.from.ensures ∙ last-bit-taken c.args.h c.args.b c.requires a loss e c.if-h-b.true
 
 pub returns-else-h-b : goal.returns-else-h-b
 returns-else-h-b c a loss e = left-whole c.args.h c.args.b c.requires a loss e c.if-h-b.false

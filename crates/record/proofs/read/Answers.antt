@@ -1,23 +1,45 @@
--- `record::read` meets its contract: `check` answers, and the days are written only behind an answer with values.
-use mathlib.Core.Path.{◌≡◌, sym, ◌∙◌}
-use mathlib.Core.Bool.{Bool}
+-- `record::read` meets its contract: the head is checked, then the days behind it, and these are written where all passed.
+use Prim.Native.Nat.{ℕ}
+use mathlib.Core.Path.{◌≡◌, sym, ◌∙◌, ap}
+use mathlib.Core.List.{List}
+use mathlib.Core.Bool.{false}
 use lib.ListN.{length}
-use Rattle.record.specs.Call.{reading}
-use Rattle.record.specs.Private.{is_accepted}
-use Rattle.record.proofs.Accepting.{same_verdict, kept}
-use Rattle.record.proofs.Tests.{told}
+use Rattle.std.proofs.lemmas.Result.{err_from_is_err_and}
+use Rattle.series.specs.Causes.{Outcome}
+use Rattle.record.specs.Call.{days_from, reading, reply_of, read_leaves}
+use Rattle.record.proofs.Reading.{with_first, no_head, head_read, replied, list_left, list_written}
 use Rattle.record.proofs.read.Goals as goal
-use Rattle.record.proofs.read.Goals.{After-is_stated}
+use Rattle.record.proofs.read.Goals.{In_ok-head}
 
-verdict : (c : After-is_stated) {t : Bool} → c.is_stated.result ≡ t → is_accepted (reading (length c.args.days.now) c.args.bytes.now) ≡ t
-verdict c h = sym (same_verdict (reading (length c.args.days.now) c.args.bytes.now)) ∙ told is_accepted c.check-answer.ensures c.is_stated.ensures h
+pub returns-in_err-head-clause-answer : goal.returns-in_err-head-clause-answer
+returns-in_err-head-clause-answer c =
+    let p = err_from_is_err_and c.from_residual.result c.from_residual.ensures.1 in
+    rw (p.1, p.2) (sym (ap reply_of (no_head (length c.args.days.now) c.args.bytes.now c.in_err-head.ensures.causes)))
 
-pub write_days-requires : goal.write_days-requires
-write_days-requires c = verdict (goal.at.write_days-requires c).After-is_stated c.if-is_stated.true
+pub returns-in_err-head-clause-list : goal.returns-in_err-head-clause-list
+returns-in_err-head-clause-list c =
+    sym (ap (λ o. read_leaves o c.args.days.now) (no_head (length c.args.days.now) c.args.bytes.now c.in_err-head.ensures.causes))
 
-pub returns-else-is_stated : goal.returns-else-is_stated
-returns-else-is_stated c =
-    record {
-      answer = c.check-answer.ensures;
-      list = kept (reading (length c.args.days.now) c.args.bytes.now) c.args.days.now (verdict (goal.at.returns-else-is_stated c).After-is_stated c.if-is_stated.false);
-    }
+-- behind a head that passed
+days : (c : In_ok-head) → Outcome (List ℕ)
+days c = days_from false 0 (length c.args.days.now) 0 c.in_ok-head.head.behind.now
+
+all : (c : In_ok-head) → reading (length c.args.days.now) c.args.bytes.now ≡ with_first c.in_ok-head.head.value (days_from false 0 (length c.args.days.now) 0 c.in_ok-head.head.behind.now)
+all c = head_read (length c.args.days.now) c.args.bytes.now c.in_ok-head.ensures.causes c.in_ok-head.ensures.found
+
+pub returns-in_err-day_count-clause-answer : goal.returns-in_err-day_count-clause-answer
+returns-in_err-day_count-clause-answer c =
+    let p = err_from_is_err_and c.from_residual-in_err-day_count.result c.from_residual-in_err-day_count.ensures.1 in
+    rw (p.1, p.2) (replied c.in_ok-head.head.value _ c.in_err-day_count.ensures ∙ sym (ap reply_of (all (goal.at.returns-in_err-day_count-clause-answer c).In_ok-head)))
+
+pub returns-in_err-day_count-clause-list : goal.returns-in_err-day_count-clause-list
+returns-in_err-day_count-clause-list c =
+    list_left c.in_ok-head.head.value _ c.args.days.now c.in_err-day_count.ensures ∙ sym (ap (λ o. read_leaves o c.args.days.now) (all (goal.at.returns-in_err-day_count-clause-list c).In_ok-head))
+
+pub returns-clause-answer : goal.returns-clause-answer
+returns-clause-answer c =
+    replied c.in_ok-head.head.value _ c.in_ok-day_count.ensures ∙ sym (ap reply_of (all (goal.at.returns-clause-answer c).In_ok-head))
+
+pub returns-clause-list : goal.returns-clause-list
+returns-clause-list c =
+    c.write_days.ensures ∙ list_written c.in_ok-head.head.value _ c.args.days.now ∙ sym (ap (λ o. read_leaves o c.args.days.now) (all (goal.at.returns-clause-list c).In_ok-head))

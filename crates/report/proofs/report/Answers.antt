@@ -5,4 +5,4 @@ use Rattle.report.proofs.Sentences.{text_length}
 use Rattle.report.proofs.report.Goals as goal
 
 pub returns : goal.returns
-returns c = let both = fits c.write.ensures (omega (arith, text_length c.args.bytes.now)) in record { length = both.0; text = both.1.0; fits = both.1.1 }
+returns c = let both = fits _ _ _ _ c.write.ensures (omega (arith, text_length c.args.bytes.now)) in record { length = both.0; text = both.1.0; fits = both.1.1 }

@@ -16,4 +16,4 @@ filled a k n xs ys within fits =
 
 pub loop-at-preserved : goal.loop-at-preserved
 loop-at-preserved g c =
-    (search rules, search rules, subst (Consumes _ _) (sym (filled _ _ _ _ _ c.loop-at.invariant.0 c.in-Bytes.ensures.fits)) (Consumes-trans _ _ _ _ _ c.loop-at.invariant.2 c.in-Bytes.ensures.taken.0))
+    (search rules, search rules, subst (Consumes _ _) (sym (filled _ _ _ _ _ c.loop-at.invariant.0 c.in_ok-n.ensures.bound.0)) (Consumes-trans _ _ _ _ _ c.loop-at.invariant.2 c.in_ok-n.ensures.bytes.0))

@@ -1,20 +1,12 @@
--- `series::any_invalid_day` meets its contract: the cause holds of the list where it was found up to i, or holds of the days
--- from i on.
+-- `series::any_invalid_day` meets its contract: the cause holds of the list where it was found so far, or holds of the days
+-- that are left.
+use mathlib.Core.Path.{refl}
 use Rattle.series.proofs.Tests.{day_looked_at, days_looked_at}
 use Rattle.series.proofs.any_invalid_day.Goals as goal
 
-pub is_invalid_day-requires : goal.is_invalid_day-requires
-is_invalid_day-requires c = tt
-
-pub either-invalid-requires : goal.either-invalid-requires
-either-invalid-requires c = tt
-
-pub loop-i-preserved : goal.loop-i-preserved
-loop-i-preserved c =
-    let l = c.before.before.before.before in
-    day_looked_at l.args.days.now l.loop-i.i l.loop-i.invalid l.loop-i.invariant c.loop-i-test.true c.is_invalid_day.ensures c.either-invalid.ensures
+pub loop-day-preserved : goal.loop-day-preserved
+loop-day-preserved c =
+    day_looked_at c.args.days.now c.loop-day.day-index c.loop-day.invalid c.loop-day.invariant c.loop-day-test.true c.is_invalid_day-invalid.ensures refl
 
 pub returns : goal.returns
-returns c =
-    let l = c.before in
-    days_looked_at l.args.days.now l.loop-i.i l.loop-i.invalid l.loop-i.invariant c.loop-i-test.false
+returns c = days_looked_at c.args.days.now c.loop-day.day-index c.loop-day.invalid c.loop-day.invariant c.loop-day-test.false

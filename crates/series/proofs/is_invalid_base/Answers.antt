@@ -13,4 +13,4 @@ returns-then-day-eq-MISSING c = rw (base_value _ c.if-base-eq-NO_VALUE.false, da
 
 pub returns : goal.returns
 unfolding is_invalid_base
-returns c = rw (base_value _ c.if-base-eq-NO_VALUE.false, day_present _ c.if-day-eq-MISSING.false)
+returns c = rw (base_value _ c.if-base-eq-NO_VALUE.false, day_present _ c.if-day-eq-MISSING.false, c.from.ensures)

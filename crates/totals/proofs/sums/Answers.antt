@@ -1,29 +1,23 @@
 -- `totals::sums` meets its contract: what has been added and what is left make up the whole, and no base value so far is invalid.
-use mathlib.Core.Path.{refl, sym, ◌∙◌}
-use native.Mathlib.Omega.{arith}
-use Rattle.totals.proofs.Summing.{sums_start, has_room, found_invalid, sums_turn, sums_end}
+use mathlib.Core.List.{◌∷◌}
+use mathlib.Core.Logic.{inl, inr}
+use Rattle.std.proofs.lemmas.Result.{err_from_is_err_and}
+use Rattle.totals.proofs.Summing.{SumsSoFar, sums_invalid, sums_turn, sums_end}
 use Rattle.totals.proofs.sums.Goals as goal
+use Rattle.totals.proofs.sums.Goals.{In-Some}
 
-pub loop-i-init : goal.loop-i-init
-loop-i-init c = sums_start c.args.days.now c.args.base.now refl refl refl
+-- the day in hand, and those behind it
+here : (c : In-Some) → SumsSoFar c.args.days.now c.args.base.now (c.in-Some.day.now ∷ c.next.new.self.a.rest.now) (c.in-Some.base.now ∷ c.next.new.self.b.rest.now) c.loop-day.tally.0 c.loop-day.tally.1.0 c.loop-day.tally.1.1.0
+here c = rw (c.in-Some.ensures.steps.0, c.in-Some.ensures.steps.1) at c.loop-day.invariant
 
-pub offset_bounds-base-i : goal.offset_bounds-base-i
-offset_bounds-base-i c = omega (arith, c.requires.0)
+pub returns-in_err-tally : goal.returns-in_err-tally
+returns-in_err-tally c =
+    let p = err_from_is_err_and c.from_residual.result c.from_residual.ensures.1 in
+    let i = here (goal.at.returns-in_err-tally c).In-Some in
+    rw (p.1, p.2) (sums_invalid _ _ i c.in_err-tally.ensures.0, c.in_err-tally.ensures.1)
 
-pub is_invalid_base-requires : goal.is_invalid_base-requires
-is_invalid_base-requires c = tt
-
-pub returns-then-is_invalid_base : goal.returns-then-is_invalid_base
-returns-then-is_invalid_base c =
-    found_invalid c.args.days.now c.args.base.now c.requires.0 c.requires.1 c.loop-i-test.true c.is_invalid_base.ensures c.if-is_invalid_base.true c.loop-i.invariant
-
-pub with_day-tally-requires : goal.with_day-tally-requires
-with_day-tally-requires c = record { room = has_room c.args.days.now c.args.base.now c.requires.0 c.requires.1 c.loop-i.invariant; base_value = sym c.is_invalid_base.ensures ∙ c.if-is_invalid_base.false }
-
-pub loop-i-preserved : goal.loop-i-preserved
-loop-i-preserved c =
-    sums_turn c.args.days.now c.args.base.now c.requires.0 c.requires.1 c.loop-i-test.true (sym c.is_invalid_base.ensures ∙ c.if-is_invalid_base.false) c.with_day-tally.ensures c.loop-i.invariant
+pub loop-day-preserved : goal.loop-day-preserved
+loop-day-preserved c = sums_turn _ _ _ c.in_ok-tally.tally (here (goal.at.loop-day-preserved c).In-Some) c.in_ok-tally.ensures
 
 pub returns : goal.returns
-returns c =
-    sums_end c.args.days.now c.args.base.now c.requires.0 c.requires.1 c.loop-i-test.false c.loop-i.invariant
+returns c = elim c.in-None.ensures.steps [ inl h ↦ sums_end _ _ _ _ _ (inl h.1.0) c.loop-day.invariant | inr h ↦ sums_end _ _ _ _ _ (inr h.1.0) c.loop-day.invariant ]

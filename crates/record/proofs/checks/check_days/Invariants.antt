@@ -1,12 +1,8 @@
--- `record::checks::check_days` meets its contract: what all bytes come to is the days counted so far, and then what the bytes
--- from `at` on come to.
-use Prim.Native.Nat.{◌-◌, ◌<◌}
-use lib.ListN.{length}
+-- `record::checks::check_days` meets its contract: what all bytes come to is the days counted so far, and then what the
+-- bytes that are left come to.
+use mathlib.Core.Path.{◌≡◌}
 use Rattle.record.proofs.Walk.{Walked}
 use Rattle.record.proofs.checks.check_days.Given as goal
 
-abbrev pub invariant-loop-at : goal.invariant-loop-at
-invariant-loop-at l = Walked l.bytes l.room l.at l.counted × (0 < l.at)
-
-abbrev pub decreases-loop-at : goal.decreases-loop-at
-decreases-loop-at l = length l.bytes - l.at
+abbrev pub invariant-loop-entry : goal.invariant-loop-entry
+invariant-loop-entry l = record { walk : Walked l.bytes l.room l.rest l.counted; here : l.entry-iterator.0.now ≡ l.rest }

@@ -1,9 +1,0 @@
--- `recession::at_rank` meets its contract: the counts above v are reached, and leave the rank below them.
-use Rattle.recession.proofs.Cumulative.{Reached}
-use Rattle.recession.proofs.at_rank.Given as goal
-
-abbrev pub invariant-loop-v : goal.invariant-loop-v
-invariant-loop-v l = Reached l.counts l.rank l.v l.reached
-
-abbrev pub decreases-loop-v : goal.decreases-loop-v
-decreases-loop-v l = l.v
