@@ -22,6 +22,7 @@ use minima::LineSetting;
 use series::Refusal;
 
 // 0 for an accepted call, else the number of its refusal.
+// Kept: written out, since C's 0 for an accepted call is no number of a refusal, and no conversion of `Result` has it.
 fn number(answer: Result<(), Refusal>) -> u32
     ensures { result ≡ returned_cause (refusal_of answer) }
 {

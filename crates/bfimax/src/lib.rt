@@ -24,7 +24,7 @@ pub const MOST_P: u32 = 9999;
 fn spell_start(last_day: u32, duration: u32, days: &[u32]) -> Option<usize>
     ensures { MatchOption result (no_spell last_day duration days.now ≡ true) (SpellFrom last_day duration days.now) }
 {
-    // Kept: `as`, since std has no From between u32 and usize, and TryFrom would add an error that never comes.
+    // Kept: `as`, here and in `bfimax`, since std has no From between u32 and usize, and TryFrom would add an error that never comes.
     let end = last_day as usize + 1;
     let start = end.checked_sub(duration as usize)?;
     let flows = days.get(start..end)?;
@@ -65,7 +65,7 @@ fn backwards(p: u32, flows: &[u32], base: &mut [u64]) -> u64
 {
     let mut following = None;
     let mut sum = 0;
-    // Kept: a proof knows of no element that is written through `base.iter_mut().zip(flows).rev()`.
+    // Kept: by index, since behind `iter_mut().rev()`, with `zip` or `enumerate` before it, a proof knows no element that was written.
     for day in (0..flows.len()).rev() {
         let value = day_value(p, flows[day], following);
         base[day] = value;

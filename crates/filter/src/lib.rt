@@ -15,6 +15,8 @@ use series::{Refusal, refuse_if};
 use usable::Filter;
 
 // A filter's setting: the method's number and its parameters in ten-thousandths; q and s are 0 where the method has none.
+// Kept: the method by its number, and 0 for a parameter that it has not, as C passes them and document 01 has them: the call
+// itself refuses what is no such number (11, 12).
 #[derive(Clone, Copy, Debug, PartialEq, Eq)]
 pub struct Setting {
     pub method: u32,

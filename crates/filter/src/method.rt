@@ -65,6 +65,7 @@ fn spans(most: u32, s: i32) -> bool
 }
 
 // The ranges of a method with one parameter: p from `low` on, and no q or s.
+// Kept: beside the ranges of two parameters, since q has to be 0 here, and a range of its own there.
 fn one_parameter(low: u32, setting: Setting) -> bool
     ensures { result ≡ (within low 9999 setting.p && eqb setting.q 0 && spans 0 setting.s) }
 {

@@ -80,6 +80,8 @@ impl Filter {
     }
 
     // One day of pass 2 or 3, whose u is `base`.
+    // Kept: a pass beside the daily step, for the walk, for its day and for what it hands on: the step takes litres, starts by
+    // its method's rule and is C's, with C's state; a pass takes thousandths and starts with u.
     fn pass_day(self, previous: Option<Previous>, base: u64) -> Passed
         requires { SmallPrevious previous × SmallBase base }
         ensures previous_value { (result.previous ≡ pass_state (weights self.setting) previous base) × (result.base ≡ pass_mark (weights self.setting) previous base) }

@@ -54,6 +54,7 @@ impl<'a> Piece<'a> {
         requires { length self.now.flows.now ≡ length base.old }
         ensures { FilledTo self.now.flows.now self.now.left self.now.right base.old base.new }
     {
+        // Kept: by the day's number, by which the line is told; an iterator over the days between would count from the left one.
         for t in self.left + 1..self.right + 1 {
             base[t] = self.value(t);
         }

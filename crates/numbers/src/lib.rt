@@ -25,7 +25,8 @@ pub fn near_halved(h: u64, b: u64) -> u64
 {
     let whole = h / b;
     if h % b < whole % 2 {
-        // Kept: `as`, since 32 bits make the shorter division, and TryFrom would add an error that never comes.
+        // Kept: `as`, since std has no From between u64 and u32, and TryFrom would add an error that never comes. (32 bits hold
+        // what is left of a division by 4, and make the shorter division.)
         let last_bits = (whole % 4) as u32;
         whole - u64::from(last_bits % ((2 - b % 2) as u32))
     } else {

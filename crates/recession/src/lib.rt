@@ -78,6 +78,7 @@ pub fn ratios(
     check_limbs(found, limbs.len())?;
     count_longer(&mut lengths, found.longest);
     list_limbs(&counted, &firsts[..found.limbs], &mut lengths, &mut *limbs);
+    // Kept: `as`, since a proof shows that the number fits, and TryFrom would add an error that never comes.
     let count = found.ratios as u32;
     let rank = (count + 1) / 2;
     let median = at_rank(&counts, count, rank);

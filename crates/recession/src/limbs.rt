@@ -48,7 +48,8 @@ impl<'a> Limbs<'a> {
             if series::is_invalid_base(day, value) {
                 return Err(Refusal::InvalidBase);
             }
-            // Kept: one test tells a valid day; with `limb_day`, which makes two, this walk takes 1.2 times the C's time.
+            // Kept: one test tells a valid day; with `limb_day`, which makes two, the call takes 1.06 to 1.36 times the C's time on
+            // a base from the line, and 0.80 to 1.04 with this one.
             if value == 1000 * u64::from(day) {
                 return Ok(Some(at));
             }

@@ -21,6 +21,7 @@ fn tally_pairs(limb: &[u32], counts: &mut [u32; 10001])
     ensures { Added (pair_ratios limb.now) counts.old counts.new }
 {
     for pair in limb.windows(2) {
+        // Kept: `as`, here and below, where a proof shows that the number fits; TryFrom would add an error that never comes.
         let r = ratio(pair[0], pair[1]) as usize;
         counts[r] += 1;
     }
@@ -76,8 +77,8 @@ pub(crate) fn at_rank(counts: &[u32; 10001], count: u32, rank: u32) -> u32
 {
     let above = count - rank;
     let mut reached = 0;
-    for v in (1..counts.len()).rev() {
-        reached += counts[v];
+    for (v, here) in counts.iter().enumerate().skip(1).rev() {
+        reached += here;
         if above < reached {
             return v as u32;
         }

@@ -11,7 +11,7 @@ use crate::entry::{Entries, Entry, Kind};
 use series::{DAY_LIMIT, Refusal, refuse_if};
 
 // Whether an entry is out of its place: a first one that is not a head, or a later one that is.
-// Kept: `first`, a test's outcome, as the definitions have it.
+// Kept: `first`, a test's outcome, since an enum of two places would be compared as this bool is.
 fn is_misplaced(kind: Kind, first: bool) -> bool
     ensures { result ≡ misplaced first (some kind) }
 {
@@ -40,6 +40,7 @@ fn count_on(entry: Entry<'_>, counted: usize, room: usize) -> Result<usize, Refu
 {
     let with_own = counted + entry.day_count();
     let end = entry.kind == Kind::End;
+    // Kept: `as`, since std has no From between u32 and usize, and TryFrom would add an error that never comes.
     let wrong_count = entry.value as usize != counted;
     refuse_if(entry.is_out_of_range(), Refusal::ValueOutOfRange)?;
     refuse_if(DAY_LIMIT < with_own, Refusal::TooManyDays)?;
@@ -82,5 +83,6 @@ pub(crate) fn check_days(bytes: &[u8], room: usize) -> Result<u32, Refusal>
     }
     // What is left begins with no whole entry of days: it is refused, or it is the end.
     check_entry(rest, false, counted, room)?;
+    // Kept: `as`, since a proof shows that the count fits.
     Ok(counted as u32)
 }

@@ -50,7 +50,8 @@ impl TryFrom<u8> for Kind {
 
 // An entry: its kind, the value of its body (0 where it has none), and the bytes behind it.
 #[derive(Clone, Copy)]
-// Kept: kind and value side by side, 0 where a kind has no body, as document 01's entry and its definition have them.
+// Kept: kind and value side by side, 0 where a kind has no body: an enum with bodies would be taken apart into these two at each
+// clause, which speak of the definition's entry.
 pub(crate) struct Entry<'a> {
     pub(crate) kind: Kind,
     pub(crate) value: u32,
@@ -101,7 +102,7 @@ impl<'a> Entry<'a> {
     {
         match self.kind {
             Kind::Flow | Kind::MissingDay => 1,
-            // Kept: `as`, here as in checks.rt, since std has no From between u32 and usize, and TryFrom would add an error that never comes.
+            // Kept: `as`, since std has no From between u32 and usize, and TryFrom would add an error that never comes.
             Kind::MissingDays => self.value as usize,
             Kind::Head | Kind::End => 0,
         }

@@ -14,6 +14,7 @@ pub(crate) fn write_days(bytes: &[u8], days: &mut [u32])
     requires { is_accepted (days_from false 0 (length days.old) 0 bytes.now) ≡ true }
     ensures { days.new ≡ by_outcome (days_from false 0 (length days.old) 0 bytes.now) (λ _. days.old) (λ ds. stored days.old 0 ds) }
 {
+    // Kept: by position, since with `split_at_mut` the loop would hand on what is left of the list, and be as long.
     let mut counted = 0;
     for entry in Entries(bytes) {
         let end = counted + entry.day_count();

@@ -74,6 +74,7 @@ impl Page<'_> {
     fn put_record(&mut self, bytes: &[u8])
         ensures { Writes (record_text (reading 2048 bytes.now)) self.old self.new }
     {
+        // Kept: lists of fixed size, of which the record's days are a part, since the box has no heap.
         let mut days = [0u32; 2048];
         let mut base = [0u64; 2048];
         match accuracy::separate(bytes, choice(), &mut days, &mut base) {

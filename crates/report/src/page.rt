@@ -22,7 +22,7 @@ impl Page<'_> {
     pub(crate) fn put_text(&mut self, characters: &[u8])
         ensures { Writes characters.now self.old self.new }
     {
-        // Kept: character by character, so that what does not fit is cut where the buffer ends.
+        // Kept: character by character, since `put` cuts where the buffer ends; `copy_from_slice` would need that end worked out again.
         for character in characters {
             self.put(*character);
         }

@@ -81,6 +81,7 @@ impl<'a, 'b, P: Print> River<'a, 'b, P> {
         self.filled(answer)
     }
 
+    // A call and then the totals. Kept: one for each call, here and below, since each call has parameters of its own.
     pub fn filter_and_totals(&mut self, setting: Setting, passes: u32) -> io::Result<()> {
         self.filter(setting, passes)?;
         self.totals()

@@ -82,6 +82,7 @@ fn thirty_years(rt: &impl Print, seed: u32, gaps: Gaps) -> io::Result<()> {
     let mut days = [0u32; 10957];
     let mut base = [0u64; 10957];
     river::fill(&mut days, seed, gaps);
+    // Kept: `as`, which reads the number that the enum gives each case.
     print!(rt; "thirty years {}", gaps as u32)?;
     show::list(rt, "days", &days)?;
     let mut river = River {

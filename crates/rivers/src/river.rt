@@ -1,7 +1,7 @@
 // Rivers made for the tests. tests/rivers.py makes the same ones.
 
 // What a made river goes by: the number that its weather is drawn from, and the water in its ground.
-#[derive(Clone, Copy)]
+#[derive(Clone, Copy, Debug, PartialEq, Eq)]
 struct Weather {
     drawn: u32,
     store: u32,
@@ -81,7 +81,7 @@ fn part(flow: u32, share: u32) -> u32 {
 }
 
 // A flow on every so many days.
-#[derive(Clone, Copy)]
+#[derive(Clone, Copy, Debug, PartialEq, Eq)]
 pub struct Storms {
     pub apart: usize,
     pub flow: u32,

@@ -38,7 +38,7 @@ fn write_report<W: Write>(to: &mut W, bytes: &[u8]) -> io::Result<()>
 }
 
 fn main(rt: HostRuntime) {
-    // one byte more than a record may have, so that a longer one is seen
+    // one byte more than a record may have, so that a longer one is seen. Kept: fixed size, since the box has no heap.
     let mut bytes = [0u8; 32769];
     let Ok(n) = read_input(&mut rt.stdin(), &mut bytes) else {
         let _ = rt.eprintln("separate: standard input cannot be read");

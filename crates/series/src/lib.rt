@@ -1,5 +1,7 @@
 // The day list and the base list as the calls take them: limits and marks, the refusals of document 01's table, and
 // the tests that several calls share. A day list holds flows in litres a second, a base list thousandths of that.
+// Kept: two lists side by side, of plain numbers with a mark for none, as document 01 and the C interface have them; so a
+// single day or value has the mark too.
 #![tactic(auto)]
 
 ghost use Rattle.std.specs.Prelude.{◌≡◌, ◌↔◌, true, false};
@@ -73,7 +75,8 @@ pub enum Refusal {
 
 impl Refusal {
     // Document 01's number of the refusal.
-    // Kept: a method, since it is document 01's number of the refusal and no conversion of its meaning.
+    // Kept: a method, since the promise is one of a number, by its name; a `From` would be no shorter and name nothing. And
+    // `as`, which reads the number that the enum gives each case.
     pub fn number(self) -> u32
         ensures { result ≡ refusal_number self }
     {

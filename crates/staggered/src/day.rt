@@ -7,7 +7,7 @@ use crate::Choice;
 // The lines' base values on day t, line after line, with the mark where a line has none. The lines stand in the work list
 // one behind the other, each as many days long.
 #[derive(Clone, Copy)]
-// Kept: a type of its own, since `chunks_exact(days).map(..)` has a closure in its type, which no struct and no method can name.
+// Kept: a type of its own, since `chunks_exact(days).map(..)` has a closure in its type, which no struct can name, and a result of `impl Iterator` gets no proof.
 pub(crate) struct DayValues<'a> {
     lines: &'a [u64],
     days: usize,

@@ -111,6 +111,7 @@ fn choose(choice: Choice, work: &[u64], base: &mut [u64])
 // The staggered line of a day list, by a choice: 1 the lowest, 2 the highest, 3 the middle one of the values that the lines
 // have on a day. The base list gets the chosen values, and the work list the N lines, in the order of their shift. A refusal
 // leaves both as they were.
+// Kept: the choice by its number, as C passes it: the call itself refuses what is no such number (16).
 pub fn staggered(
     setting: LineSetting,
     choice: u32,
