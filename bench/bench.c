@@ -17,7 +17,7 @@ enum { RUNS = 25, RUN_NANOSECONDS = 4000000, STACK = 1 << 18, PAINT = 0xc3, SIZE
 static const uint32_t sizes[SIZES] = {1000, 10000, MOST};
 
 enum input { FLOWS, GAPS, MIXED, LATE, SUMMERS, LENGTHS, TWOS };
-enum call { READ, FILTER, STEP, LINE, TOTALS, RECESSION, BFIMAX, STAGGERED, HALF_LIFE };
+enum call { READ, FILTER, STEP, LINE, TOTALS, RECESSION, BFIMAX, STAGGERED, HALF_LIFE, METER };
 
 static const struct job {
     const char *name;
@@ -55,6 +55,7 @@ static const struct job {
     {"recession, 18,000 limbs", RECESSION, TWOS, 2, 0, 0, 0, 0},
     {"recession, from the line", RECESSION, GAPS, 2, 5, 9000, 0, 0},
     {"half-life, a call for a day", HALF_LIFE, FLOWS, 0, 0, 0, 0, 0},
+    {"meter, a call for a reading", METER, FLOWS, 0, 0, 0, 0, 0},
     {"bfimax, D 365", BFIMAX, FLOWS, 365, 9700, 0, 0, 0},
     {"bfimax, D 3650 or all", BFIMAX, FLOWS, 3650, 9700, 0, 0, 0},
 };
@@ -64,6 +65,7 @@ static uint8_t bytes[5 * (MOST + 2)];
 static size_t bytes_len;
 static uint32_t days[MOST];
 static uint64_t given_base[MOST];
+static uint8_t readings[MOST][5];
 static uint32_t count;
 
 static struct result {
@@ -121,6 +123,18 @@ static uint32_t two_day_flow(uint32_t t)
     return t % 2 == 0 ? 1000 + below(1000) : 100 + below(800);
 }
 
+// A reading a day, in either unit, of exponents from that of a few ten-thousandths of a litre to that of 8,000,000.
+static void lay_readings(uint32_t size)
+{
+    for (uint32_t t = 0; t < size; t++) {
+        int cubic = below(2) == 0;
+        uint32_t exponent = (cubic ? 139 : 149) - below(35), bits = exponent << 23 | below(0x800000);
+        readings[t][0] = cubic ? 1 : 2;
+        for (size_t i = 0; i < 4; i++)
+            readings[t][1 + i] = (uint8_t)(bits >> 8 * i);
+    }
+}
+
 // Base flow that a call reads: for ratios that of the line with N and g, or with N 0 the flow of every day; for totals
 // that of a filter.
 static void give_base(const struct job *job)
@@ -170,6 +184,7 @@ static void prepare(const struct job *job, uint32_t size)
             put(BASEFLOW_MISSING_DAYS, 1, 2);
     }
     put(BASEFLOW_END, size, 4);
+    lay_readings(size);
     give_base(job);
 }
 
@@ -204,6 +219,10 @@ static uintptr_t stack_before;
         case HALF_LIFE:                                                                                                \
             for (uint32_t t = 0; t < count; t++)                                                                       \
                 (r)->answer |= prefix##half_life(1 + t % 999, &(r)->days[t]);                                          \
+            break;                                                                                                     \
+        case METER:                                                                                                    \
+            for (uint32_t t = 0; t < count; t++)                                                                       \
+                (r)->answer |= prefix##meter(readings[t], sizeof readings[t], &(r)->days[t]);                          \
             break;                                                                                                     \
         case STAGGERED:                                                                                                \
             (r)->answer = prefix##staggered((job)->first, (job)->p, (job)->q, days, count, (r)->base, count,           \

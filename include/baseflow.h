@@ -2,8 +2,8 @@
  * baseflow.h - base flow engine of a sealed river gauging box
  *
  * Base flow is the part of a river's flow that groundwater feeds. From a record of daily flows the engine reads the
- * days, separates base flow by a recursive filter or by the smoothed-minima line, totals it, finds recession ratios and
- * half-lives, and estimates BFImax from the river itself. Link with target/staticlib/libbaseflow.a, which `tools/archive`
+ * days, or a flow meter's readings, separates base flow by a recursive filter or by the smoothed-minima line, totals it,
+ * finds recession ratios and half-lives, and estimates BFImax from the river itself. Link with target/staticlib/libbaseflow.a, which `tools/archive`
  * makes (x86-64).
  *
  * Units
@@ -83,14 +83,14 @@ extern "C" {
 /* what a call returns */
 enum baseflow_answer {
     BASEFLOW_ACCEPTED = 0,
-    BASEFLOW_BYTES_SHORT = 1,      /* bytes that run out within a body, or before an end entry */
-    BASEFLOW_BAD_KIND = 2,         /* a kind that is none of 01, 02, 03, 04, 09 */
+    BASEFLOW_BYTES_SHORT = 1,      /* bytes that run out within a body, or before an end entry or a reading */
+    BASEFLOW_BAD_KIND = 2,         /* a kind that is none of 01, 02, 03, 04, 09, or in a reading none of 01, 02, 03 */
     BASEFLOW_BAD_PLACE = 3,        /* a first entry that is not a head, or a later one that is */
     BASEFLOW_BAD_VALUE = 4,        /* an entry's value outside the range of its kind */
     BASEFLOW_RECORD_TOO_LONG = 5,  /* a record of more than 36,525 days */
     BASEFLOW_DAYS_SHORT = 6,       /* no room in the day list for a record's days */
     BASEFLOW_BAD_COUNT = 7,        /* an end entry that counts another number of days */
-    BASEFLOW_BYTES_LEFT = 8,       /* bytes behind the end entry */
+    BASEFLOW_BYTES_LEFT = 8,       /* bytes behind the end entry, or behind a reading */
     BASEFLOW_DAYS_TOO_LONG = 9,    /* a day list of more than 36,525 days */
     BASEFLOW_BAD_DAY = 10,         /* a number for a day that is neither a flow nor the mark of a missing day */
     BASEFLOW_BAD_METHOD = 11,      /* a method that is not 1 to 7 */
@@ -107,7 +107,9 @@ enum baseflow_answer {
     BASEFLOW_LIMBS_SHORT = 22,     /* a limb list without two numbers for each counted limb */
     BASEFLOW_BAD_DURATION = 23,    /* duration D out of range */
     BASEFLOW_BAD_SPELL = 24,       /* a last day outside the list, or a missing day or none on one of the D days */
-    BASEFLOW_BAD_WORK = 25         /* a work list that is not N times as long as the day list */
+    BASEFLOW_BAD_WORK = 25,        /* a work list that is not N times as long as the day list */
+    BASEFLOW_BAD_READING = 26,     /* a reading that is not finite, or below zero */
+    BASEFLOW_READING_TOO_LARGE = 27 /* a reading of more than 10,000,000 litres a second */
 };
 
 /*
@@ -231,6 +233,18 @@ uint32_t baseflow_bfimax(uint32_t last_day, uint32_t duration, uint32_t p, const
  *   baseflow_half_life((ratio + 9) / 10, &most);
  */
 uint32_t baseflow_half_life(uint32_t p, uint32_t *days);
+
+/*
+ * The day that a flow meter's reading says: the litre a second nearest to the exact value of the float that it sends, at a
+ * half the even one (2.5 litres is 2, 3.5 is 4), or a missing day.
+ * The bytes are one reading and nothing else: kind 01, then a binary32 of IEEE 754, low byte first, in cubic metres a
+ * second; kind 02, then such a float in litres a second; or kind 03 alone, no reading.
+ *
+ * Refuses: 1 (no bytes), 2, 1 (a float cut short), 8, 26, 27.
+ * On 0: *day is what a day list has: the flow, or BASEFLOW_MISSING for no reading. Negative zero is 0.
+ * The distance that a filter keeps from the exact run is counted from this day, and not from the float.
+ */
+uint32_t baseflow_meter(const uint8_t *bytes, size_t bytes_len, uint32_t *day);
 
 #ifdef __cplusplus
 }

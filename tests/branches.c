@@ -221,6 +221,49 @@
     X(HALF_LIFE_1, "half_life", "accepted, p 1")                                                                       \
     X(HALF_LIFE_999, "half_life", "accepted, p 999")                                                                   \
     X(HALF_LIFE_LONG, "half_life", "accepted, over 100 days")                                                          \
+    X(METER_1_EMPTY, "meter", "refused 1, no bytes")                                                                   \
+    X(METER_1_ALONE, "meter", "refused 1, a kind alone")                                                               \
+    X(METER_1_SHORT, "meter", "refused 1, three bytes of a float")                                                     \
+    X(METER_2_0, "meter", "refused 2, kind 00")                                                                        \
+    X(METER_2_4, "meter", "refused 2, kind 04")                                                                        \
+    X(METER_2_MOST, "meter", "refused 2, kind ff")                                                                     \
+    X(METER_2_SHORT, "meter", "refused 2, kind alone")                                                                 \
+    X(METER_2_LONG, "meter", "refused 2, over five bytes")                                                             \
+    X(METER_8, "meter", "refused 8, behind a float")                                                                   \
+    X(METER_8_BAD, "meter", "refused 8, behind a float that 26 is for")                                                \
+    X(METER_8_LARGE, "meter", "refused 8, behind a float that 27 is for")                                              \
+    X(METER_8_NONE, "meter", "refused 8, behind no reading")                                                           \
+    X(METER_26_INFINITE, "meter", "refused 26, infinity")                                                              \
+    X(METER_26_INFINITE_BELOW, "meter", "refused 26, infinity below zero")                                             \
+    X(METER_26_QUIET, "meter", "refused 26, a quiet NaN")                                                              \
+    X(METER_26_QUIET_SIGN, "meter", "refused 26, a quiet NaN with a sign")                                             \
+    X(METER_26_SIGNALLING, "meter", "refused 26, a signalling NaN")                                                    \
+    X(METER_26_SIGNALLING_SIGN, "meter", "refused 26, a signalling NaN with a sign")                                   \
+    X(METER_26_BELOW, "meter", "refused 26, below zero")                                                               \
+    X(METER_26_BELOW_SUBNORMAL, "meter", "refused 26, a subnormal below zero")                                         \
+    X(METER_26_BELOW_NEXT, "meter", "refused 26, the float next below zero")                                           \
+    X(METER_26_BELOW_LARGE, "meter", "refused 26, below zero by over 10,000,000")                                      \
+    X(METER_27_LITRES, "meter", "refused 27, litres")                                                                  \
+    X(METER_27_CUBIC, "meter", "refused 27, cubic metres")                                                             \
+    X(METER_27_LITRES_NEXT, "meter", "refused 27, litres, next above the limit")                                       \
+    X(METER_27_CUBIC_NEXT, "meter", "refused 27, cubic metres, next above the limit")                                  \
+    X(METER_27_MOST, "meter", "refused 27, the largest float")                                                         \
+    X(METER_MISSING, "meter", "accepted, no reading")                                                                  \
+    X(METER_LITRES, "meter", "accepted, litres")                                                                       \
+    X(METER_CUBIC, "meter", "accepted, cubic metres")                                                                  \
+    X(METER_ZERO, "meter", "accepted, zero")                                                                           \
+    X(METER_MINUS_ZERO, "meter", "accepted, negative zero")                                                            \
+    X(METER_SUBNORMAL, "meter", "accepted, a subnormal")                                                               \
+    X(METER_TO_0, "meter", "accepted, 0 for over a quarter of a litre")                                                \
+    X(METER_TO_1, "meter", "accepted, 1 for another number")                                                           \
+    X(METER_LITRES_HALF_BELOW, "meter", "accepted, litres at a half, even below")                                      \
+    X(METER_LITRES_HALF_ABOVE, "meter", "accepted, litres at a half, even above")                                      \
+    X(METER_CUBIC_HALF_BELOW, "meter", "accepted, cubic metres at a half, even below")                                 \
+    X(METER_CUBIC_HALF_ABOVE, "meter", "accepted, cubic metres at a half, even above")                                 \
+    X(METER_LARGEST_HALF, "meter", "accepted, 8,388,607.5 litres")                                                     \
+    X(METER_NO_FRACTION, "meter", "accepted, litres with no place for a fraction")                                     \
+    X(METER_LITRES_MOST, "meter", "accepted, 10,000,000 litres")                                                       \
+    X(METER_CUBIC_MOST, "meter", "accepted, 10,000 cubic metres")                                                      \
     X(RECESSION_18_LOW, "recession", "refused 18, L low")                                                              \
     X(RECESSION_18_HIGH, "recession", "refused 18, L high")                                                            \
     X(RECESSION_9, "recession", "refused 9")                                                                           \
@@ -829,6 +872,93 @@ static void count_half_life(const struct test_case *c, uint32_t answer, uint32_t
     hit_if(days > 100, HALF_LIFE_LONG);
 }
 
+// ---- the meter
+
+enum { INFINITE = 0x7f800000, MOST_LITRES = 0x4b189680, MOST_CUBIC_METRES = 0x461c4000, LARGEST_HALF = 0x4affffff };
+
+static int is_bad_float(uint32_t bits)
+{
+    return bits >= INFINITE && bits != 0x80000000;
+}
+
+static void count_bad_float(uint32_t bits)
+{
+    uint32_t size = bits & 0x7fffffff, sign = bits >> 31;
+    if (size > INFINITE) {
+        hit(behind(size < 0x7fc00000 ? METER_26_SIGNALLING : METER_26_QUIET, sign));
+        return;
+    }
+    if (size == INFINITE) {
+        hit(behind(METER_26_INFINITE, sign));
+        return;
+    }
+    hit(METER_26_BELOW);
+    hit_if(size < 0x800000, METER_26_BELOW_SUBNORMAL);
+    hit_if(size == 1, METER_26_BELOW_NEXT);
+    hit_if(size > MOST_LITRES, METER_26_BELOW_LARGE);
+}
+
+// An accepted float: m / 2^k in its unit.
+static void count_float(int cubic, uint32_t bits, uint32_t day)
+{
+    uint32_t exponent = bits >> 23 & 0xff, k = exponent == 0 ? 149 : 150 - exponent;
+    uint64_t m = (bits & 0x7fffff) + (exponent == 0 ? 0 : 0x800000u), sum = (cubic ? 1000 : 1) * m;
+    hit(cubic ? METER_CUBIC : METER_LITRES);
+    hit_if(bits == 0, METER_ZERO);
+    hit_if(bits == 0x80000000, METER_MINUS_ZERO);
+    hit_if(m > 0 && exponent == 0, METER_SUBNORMAL);
+    if (k < 60) {
+        uint64_t litre = (uint64_t)1 << k;
+        hit_if(day == 0 && 4 * sum > litre, METER_TO_0);
+        hit_if(day == 1 && sum != litre, METER_TO_1);
+        hit_halves(half_at(sum, litre), cubic ? METER_CUBIC_HALF_BELOW : METER_LITRES_HALF_BELOW);
+    }
+    hit_if(!cubic && bits == LARGEST_HALF, METER_LARGEST_HALF);
+    hit_if(!cubic && k == 0, METER_NO_FRACTION);
+    hit_if(!cubic && bits == MOST_LITRES, METER_LITRES_MOST);
+    hit_if(cubic && bits == MOST_CUBIC_METRES, METER_CUBIC_MOST);
+}
+
+static void count_meter(const struct test_case *c, uint32_t answer, uint32_t day)
+{
+    uint32_t bits = 0, kind = c->bytes_len > 0 ? c->bytes[0] : 0;
+    for (size_t i = 4; i > 0 && c->bytes_len >= 5; i--)
+        bits = bits << 8 | c->bytes[i];
+    switch (answer) {
+    case 1:
+        hit_if(c->bytes_len == 0, METER_1_EMPTY);
+        hit_if(c->bytes_len == 1, METER_1_ALONE);
+        hit_if(c->bytes_len == 4, METER_1_SHORT);
+        break;
+    case 2:
+        hit_if(kind == 0, METER_2_0);
+        hit_if(kind == 4, METER_2_4);
+        hit_if(kind == 0xff, METER_2_MOST);
+        hit_if(c->bytes_len == 1, METER_2_SHORT);
+        hit_if(c->bytes_len > 5, METER_2_LONG);
+        break;
+    case 8:
+        hit(kind == 3 ? METER_8_NONE : METER_8);
+        hit_if(kind != 3 && is_bad_float(bits), METER_8_BAD);
+        hit_if(kind != 3 && !is_bad_float(bits) && bits != 0x80000000 && bits > MOST_LITRES, METER_8_LARGE);
+        break;
+    case 26:
+        count_bad_float(bits);
+        break;
+    case 27:
+        hit(kind == 1 ? METER_27_CUBIC : METER_27_LITRES);
+        hit_if(kind == 2 && bits == MOST_LITRES + 1, METER_27_LITRES_NEXT);
+        hit_if(kind == 1 && bits == MOST_CUBIC_METRES + 1, METER_27_CUBIC_NEXT);
+        hit_if(bits == INFINITE - 1, METER_27_MOST);
+        break;
+    default:
+        if (kind == 3)
+            hit(METER_MISSING);
+        else
+            count_float(kind == 1, bits, day);
+    }
+}
+
 // ---- staggered lines
 
 // How many lines have a value on day t, and whether two of them differ there.
@@ -1262,6 +1392,9 @@ void count_branch(const struct test_case *c, uint32_t answer, const struct outs 
         break;
     case HALF_LIFE:
         count_half_life(c, answer, outs->small[0]);
+        break;
+    case METER:
+        count_meter(c, answer, outs->small[0]);
         break;
     case STAGGERED:
         count_staggered(c, answer, work);

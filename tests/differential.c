@@ -27,7 +27,7 @@ enum list { BYTES, DAYS, BASE, LIMBS, WORK, LISTS };
 enum { GUARD = 64, GUARD_BYTE = 0x5a };
 
 static const char *const call_names[CALLS] = {"read", "filter", "step", "steps", "line", "totals", "recession",
-                                             "bfimax", "staggered", "half_life"};
+                                             "bfimax", "staggered", "half_life", "meter"};
 static const char *const list_names[LISTS] = {"bytes", "days", "base", "limbs", "work"};
 static const size_t widths[LISTS] = {1, 4, 8, 4, 8};
 static const size_t rooms[LISTS] = {ROOM_BYTES, ROOM_DAYS, ROOM_DAYS, ROOM_DAYS, ROOM_WORK};
@@ -89,6 +89,8 @@ static int may_write(enum call call, enum list list)
                                      c->limbs_len, &small[0], &small[1]);                                              \
         case HALF_LIFE:                                                                                                \
             return prefix##half_life(c->p, &small[0]);                                                                 \
+        case METER:                                                                                                    \
+            return prefix##meter(lists[BYTES], c->bytes_len, &small[0]);                                               \
         case STAGGERED:                                                                                                \
             return prefix##staggered(c->block_days, c->factor, c->choice, lists[DAYS], c->days_len, lists[BASE],       \
                                      c->base_len, lists[WORK], c->work_len);                                           \
@@ -371,6 +373,8 @@ static void print_outs(enum call call, const struct outs *o)
         printf(" bfimax %" PRIu32, o->small[0]);
     if (call == HALF_LIFE)
         printf(" days %" PRIu32, o->small[0]);
+    if (call == METER)
+        printf(" day %" PRIu32, o->small[0]);
     if (call == RECESSION)
         printf(" ratio_count %" PRIu32 ", ratio %" PRIu32, o->small[0], o->small[1]);
     putchar('\n');

@@ -11,7 +11,7 @@
 enum { MOST_FLOW = 10000000, MOST_DAYS = 36525, MOST_FIRST_DAY = 99999, MOST_DURATION = 3650 };
 
 // STEPS is no call of its own: daily steps from a fresh state over a day list, held to pass 1 of the filter.
-enum call { READ, FILTER, STEP, STEPS, LINE, TOTALS, RECESSION, BFIMAX, STAGGERED, HALF_LIFE, CALLS };
+enum call { READ, FILTER, STEP, STEPS, LINE, TOTALS, RECESSION, BFIMAX, STAGGERED, HALF_LIFE, METER, CALLS };
 
 // The room that a case has for each list, in elements.
 enum { ROOM_BYTES = 6 * MOST_DAYS, ROOM_DAYS = MOST_DAYS + 100, ROOM_WORK = 5 * MOST_DAYS + 100 };

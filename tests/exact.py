@@ -7,11 +7,13 @@ Each record is read, separated, stepped through day by day and totalled by the e
 and the setting are worked out anew with fractions: document 01's rules, near left out. It fails with a message where a
 figure lies outside its limit, a day has a value in one run only, or a refusal is not the one that the rules give.
 BFImax has runs of its own: the limit of each of its values counts the days up to the next one behind it on which both
-runs have the whole flow. It prints the largest share of each limit that was reached, and keeps that in
+runs have the whole flow. A meter's readings, with every upper half of a float's bits, have to be the nearest litre to
+the fraction that the float is. It prints the largest share of each limit that was reached, and keeps that in
 target/tests/exact.txt, from which the page of guarantees takes its figures. Document 01's worked rivers are held to its
 figures first.
 """
 import random
+import struct
 import sys
 from fractions import Fraction
 
@@ -273,11 +275,38 @@ def measure_bfimax(engine, last, duration, p, days, shares):
     return True
 
 
+# "Meter": 16.1 to 16.4
+def float_readings():
+    """Every upper half of a float's bits, with a lower half drawn for it, in both units."""
+    rng = random.Random(1900)
+    for upper in range(2**16):
+        for kind in (1, 2):
+            yield bytes([kind]) + (upper << 16 | rng.randrange(2**16)).to_bytes(4, "little")
+
+
+def measure_meter(engine):
+    """How many readings that was."""
+    count = 0
+    for count, data in enumerate(float_readings(), 1):
+        given, due = refused(engine.meter, data), rules.meter(data)
+        wanted = (due, None) if isinstance(due, rules.Refusal) else (None, due)
+        assert given == wanted, f"number and day {given}, where {wanted} is due for {data.hex()}"
+    return count
+
+
 # document 01, "Rivers worked through": rule 8.1
 def worked_rivers(engine):
     def ratios(limb_days, days):
         """With every day at base."""
         return engine.recession(limb_days, days, rules.whole_flows(days))
+
+    def readings(kind, *values):
+        """The refusal and the day of each."""
+        return [refused(engine.meter, bytes([kind]) + struct.pack("<f", value)) for value in values]
+
+    def of_bits(*bits):
+        """The refusals of floats by their bits, in both units."""
+        return {refused(engine.meter, bytes([kind]) + n.to_bytes(4, "little"))[0] for n in bits for kind in (1, 2)}
 
     line = [None, 8000, 8333, 8667, 9000, None]
     flows = [10, 8, 10, 20, 9, 30]
@@ -337,6 +366,20 @@ def worked_rivers(engine):
         ("half-lives, p 0 and 1000", [refused(engine.half_life, p)[0] for p in (0, 1000)], [12, 12]),
         ("half-lives of every p", [engine.half_life(p) for p in range(1, 1000)],
          [rules.half_life(p) for p in range(1, 1000)]),
+        ("readings, litres", readings(2, 2.5, 3.5, 8_388_607.5, 10_000_000, 10_000_001),
+         [(None, 2), (None, 4), (None, 8_388_608), (None, 10_000_000), (27, None)]),
+        ("readings, cubic metres", readings(1, 1.5, 0.0005, 10_000, 10_000.0009765625),
+         [(None, 1500), (None, 1), (None, 10_000_000), (27, None)]),
+        ("readings, negative zero and the smallest subnormal", [readings(kind, -0.0, 2**-149) for kind in (1, 2)],
+         [[(None, 0)] * 2] * 2),
+        ("readings, infinities", of_bits(0x7f800000, 0xff800000), {26}),
+        ("readings, NaNs", of_bits(0x7fc00000, 0xffc00000, 0x7f800001, 0xff800001, 0x7fffffff, 0xffffffff), {26}),
+        ("readings, below zero", [readings(kind, -1e-45, -1, -3.4e38) for kind in (1, 2)], [[(26, None)] * 3] * 2),
+        ("readings, the largest", [readings(kind, 3.4e38) for kind in (1, 2)], [[(27, None)]] * 2),
+        ("no reading", engine.meter(b"\x03"), None),
+        ("readings, bytes", [refused(engine.meter, bytes.fromhex(data))[0] for data in (
+            "", "01", "02000080", "00", "04", "ff0000803f00", "0303", "010000803f00", "020000807f00")],
+         [1, 1, 1, 2, 2, 2, 8, 8, 8]),
         ("BFImax, held to the flow in the middle", engine.bfimax(4, 5, 9000, [30, 12, 10, 20, 9]),
          (6476, [12346, 11111, 10000, 10000, 9000])),
         ("BFImax, never held to the flow", engine.bfimax(4, 4, 9500, [7, 100, 80, 50, 30, None]),
@@ -385,10 +428,15 @@ def main():
             staggered_runs += measure_staggered(engine, block_days, factor, days, shares)
         except AssertionError as wrong:
             sys.exit(f"river '{name}', staggered lines with N {block_days}, g {factor}: {wrong}")
+    try:
+        readings = measure_meter(engine)
+    except AssertionError as wrong:
+        sys.exit(f"meter: {wrong}")
     lines = [f"exact: {runs} runs through the C interface lie within their limits; the largest share of each:"]
     lines += [f"  {figure}: {float(share):.3f}" for figure, share in sorted(shares.reached.items())]
     lines.append(f"exact: {bfimax_runs} further runs, of BFImax, and {staggered_runs}, of staggered lines, lie within "
                  "theirs")
+    lines.append(f"exact: {readings:,} readings of a meter are the nearest litre to a fraction, or refused")
     (products() / "exact.txt").write_text("\n".join(lines) + "\n")
     print("\n".join(lines))
 

@@ -1,7 +1,7 @@
 // The generator of the differential runs. It aims at the edges of document 01: limits and their neighbours, marks,
 // ties, quotients at a half, falls through gaps, dry spells, limbs of chosen lengths, falls that are not at base
-// everywhere, recessions as BFImax sees them, full lists, lists of different lengths, and records damaged by cutting,
-// flipping and inserting.
+// everywhere, recessions as BFImax sees them, full lists, lists of different lengths, records damaged by cutting,
+// flipping and inserting, and floats of every exponent, at halves between two litres, and beside the limits.
 #include <string.h>
 
 #include "differential.h"
@@ -676,12 +676,93 @@ static void make_half_life(struct test_case *c)
                        : between(1, 999);
 }
 
+// ---- the meter
+
+// The bits of the float m / 2^k, for m below 2^24 that is not 0.
+static uint32_t float_of(uint32_t m, uint32_t k)
+{
+    uint32_t exponent = 150 - k;
+    for (; m < 0x800000; exponent--)
+        m *= 2;
+    return exponent << 23 | (m & 0x7fffff);
+}
+
+// Litres at a half, in the unit of a kind: an odd number of halves of a litre, or of sixteenths of a cubic metre. Most
+// are within the limit.
+static uint32_t at_a_half(uint8_t kind)
+{
+    uint32_t odd = 1 + 2 * below(one_in(4) ? 4 : kind == 1 ? 81000 : 0x800000u >> below(12));
+    return float_of(odd, kind == 1 ? 4 : 1);
+}
+
+// A zero, an infinity, a NaN, a subnormal or the number beside it, of either sign; or any number below zero.
+static uint32_t odd_float(void)
+{
+    uint32_t sign = one_in(2) ? 0x80000000 : 0;
+    switch (below(6)) {
+    case 0:
+        return sign | AMONG(0, 0x7f800000);
+    case 1:
+        return sign | AMONG(0x7f800001, 0x7fbfffff, 0x7fc00000, 0x7fc00001, 0x7fffffff);
+    case 2:
+        return sign | 0x7f800000 | below(0x800000);
+    case 3:
+        return sign | AMONG(1, 2, 0x400000, 0x7fffff, 0x800000);
+    case 4:
+        return sign | below(0x800000);
+    default:
+        return 0x80000000 | (one_in(2) ? AMONG(1, 0x3f800000, 0x3f000000, 0x4b189681, 0x7f7fffff) : below(0x7f800000));
+    }
+}
+
+// Exponents at which an answer is 0 or 1, at which it meets the limit, and at which the last of a fraction goes.
+static uint32_t near_an_edge(uint8_t kind)
+{
+    uint32_t exponent = kind == 1 ? AMONG(114, 115, 116, 117, 139, 140, 141) : AMONG(124, 125, 126, 127, 149, 150, 151);
+    return exponent << 23 | (one_in(3) ? AMONG(0, 1, 0x7fffff, 0x400000) : below(0x800000));
+}
+
+static uint32_t float_bits(uint8_t kind)
+{
+    switch (below(8)) {
+    case 0:
+        return (uint32_t)draw();
+    case 1: // of every exponent
+        return below(255) << 23 | (one_in(4) ? AMONG(0, 1, 0x7fffff) : below(0x800000));
+    case 2:
+        return at_a_half(kind);
+    case 3: // beside a half
+        return at_a_half(kind) + AMONG(1, 2, UINT32_MAX, UINT32_MAX - 1);
+    case 4: // the limit, in litres and in cubic metres, and the largest half
+        return AMONG(float_of(MOST_FLOW, 0), float_of(MOST_FLOW, 0), float_of(10000, 0), float_of(10000, 0),
+                     float_of(16777215, 1)) + AMONG(0, 0, 1, 2, UINT32_MAX, UINT32_MAX - 1);
+    case 5: // half a litre as a float of cubic metres, and the largest float
+        return AMONG(0x3a03126f, 0x3a03126f, 0x7f7fffff) + AMONG(0, UINT32_MAX, UINT32_MAX - 1);
+    case 6:
+        return near_an_edge(kind);
+    default:
+        return odd_float();
+    }
+}
+
+static void make_meter(struct test_case *c)
+{
+    uint8_t kind = (uint8_t)(one_in(8) ? 3 : between(1, 2));
+    put(c, kind, float_bits(kind), kind == 3 ? 0 : 4);
+    if (spoil())
+        c->bytes[0] = (uint8_t)(one_in(2) ? AMONG(0, 3, 4, 0xff) : draw());
+    if (spoil())
+        c->bytes_len = one_in(4) ? 0 : 1 + below((uint32_t)c->bytes_len);
+    else if (spoil())
+        insert(c, c->bytes_len, between(1, one_in(2) ? 1 : 5));
+}
+
 void generate(struct test_case *c, uint64_t seed, uint64_t number)
 {
     static void (*const make[CALLS])(struct test_case *) = {
         [READ] = make_read,     [FILTER] = make_filter, [STEP] = make_step,           [STEPS] = make_steps,
         [LINE] = make_line,     [TOTALS] = make_totals, [RECESSION] = make_recession, [BFIMAX] = make_bfimax,
-        [STAGGERED] = make_staggered, [HALF_LIFE] = make_half_life,
+        [STAGGERED] = make_staggered, [HALF_LIFE] = make_half_life, [METER] = make_meter,
     };
     state = seed << 40 ^ number;
     state = draw();
@@ -692,7 +773,8 @@ void generate(struct test_case *c, uint64_t seed, uint64_t number)
     }
     rough = one_in(5);
     uint32_t turn = below(100);
-    c->call = turn < 24   ? READ
+    c->call = turn < 22   ? READ
+              : turn < 24 ? METER
               : turn < 40 ? FILTER
               : turn < 48 ? STEP
               : turn < 52 ? STEPS

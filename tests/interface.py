@@ -123,6 +123,12 @@ class Engine:
         self.call("half_life", ctypes.c_uint32(p), ctypes.byref(days))
         return days.value
 
+    def meter(self, data):
+        """The day of a reading."""
+        day = ctypes.c_uint32()
+        self.call("meter", listed(ctypes.c_uint8, data), size(data), ctypes.byref(day))
+        return None if day.value == MISSING else day.value
+
     def bfimax(self, last_day, duration, p, days):
         """BFImax and the base list."""
         base, answer = listed(ctypes.c_uint64, [0] * len(days)), ctypes.c_uint32()

@@ -38,6 +38,12 @@ SHIFTED = "draw_lines(block_days, factor, o, days, days_len, work + o * days_len
 CHOICE_TEST = "|| !within(choice, 1, 3)) return 16; if (days_len > MOST_DAYS) return 9;"
 WORK_TEST = "if (work_len != block_days * days_len) return 25;"
 OF_VALUES = "if (next == NO_VALUE) continue;"
+LENGTH_TESTS = "if (bytes_len < reading_len) return 1; if (bytes_len > reading_len) return 8;"
+KIND_TEST = "if (!within(bytes[0], CUBIC_METRES, NO_READING)) return 2;"
+FLOAT_TEST = "if (bits >= INFINITE && bits != MINUS_ZERO) return 26;"
+READING_NEAR = "(2 * m + ((uint64_t)1 << k) - 1 + (m >> k & 1)) >> (k + 1)"
+READING_SCALED = "near_shifted(units[bytes[0]] * reading.m, 150 - reading.exponent)"
+READING_TEST = "if (litres > MOST_FLOW) return 27;"
 BACKWARDS = "value = smaller(1000 * (uint64_t)days[t], near(10000 * value, p));"
 
 
@@ -204,6 +210,43 @@ FAULTS = (
     ("the half-life of the p before", "known[p] = days_to_half(p);", "known[p] = days_to_half(p > 1 ? p - 1 : p);"),
     ("the half-life of p 1000 is none", "if (!within(p, 1, 999)) return 12;",
      "if (p == 1000) { *days = 0; return 0; } if (!within(p, 1, 999)) return 12;"),
+    ("a reading is cut off", READING_NEAR, "m >> k"),
+    ("a half goes up in a reading", READING_NEAR, "(2 * m + ((uint64_t)1 << k)) >> (k + 1)"),
+    ("a half goes down in a reading", READING_NEAR, "(2 * m + ((uint64_t)1 << k) - 1) >> (k + 1)"),
+    ("a half goes to the odd number in a reading", READING_NEAR,
+     "(2 * m + ((uint64_t)1 << k) - (m >> k & 1)) >> (k + 1)"),
+    ("a reading is shifted by at most 31 bits", "k = k < 35 ? k : 35;", "k &= 31;"),
+    ("cubic metres are rounded before the factor", READING_SCALED,
+     "units[bytes[0]] * near_shifted(reading.m, 150 - reading.exponent)"),
+    ("the units of the kinds are exchanged", "[CUBIC_METRES] = 1000, [LITRES] = 1",
+     "[CUBIC_METRES] = 1, [LITRES] = 1000"),
+    ("a float is read from its high byte on", "uint32_t bits = four_bytes(bytes + 1);",
+     "uint32_t bits = bytes[4] | (uint32_t)bytes[3] << 8 | (uint32_t)bytes[2] << 16 | (uint32_t)bytes[1] << 24;"),
+    ("a large number below zero is too large", FLOAT_TEST,
+     f"if (bits > MINUS_ZERO && bits < 0xff800000 && parts_of(bits).exponent > 150) return 27; {FLOAT_TEST}"),
+    ("infinity is too large", FLOAT_TEST, f"if (bits == INFINITE) return 27; {FLOAT_TEST}"),
+    ("a NaN without a sign is too large", FLOAT_TEST, "if (bits == INFINITE || bits > MINUS_ZERO) return 26;"),
+    ("a NaN with a sign is no reading", FLOAT_TEST,
+     f"if (bits > 0xff800000) {{ *day = MISSING; return 0; }} {FLOAT_TEST}"),
+    ("negative zero is refused", FLOAT_TEST, "if (bits >= INFINITE) return 26;"),
+    ("a subnormal below zero is 0", FLOAT_TEST, "if (bits >= INFINITE && bits - MINUS_ZERO >= 0x800000) return 26;"),
+    ("what rounds to 0 from below zero is 0", FLOAT_TEST,
+     "if (bits >= INFINITE && (bits < MINUS_ZERO || bits - MINUS_ZERO > 0x3a000000)) return 26;"),
+    ("a reading takes 10,000,001 litres", READING_TEST, "if (litres > MOST_FLOW + 1) return 27;"),
+    ("a reading takes no 10,000,000 litres", READING_TEST, "if (litres >= MOST_FLOW) return 27;"),
+    ("a reading that is too large is the most", READING_TEST, "litres = smaller(litres, MOST_FLOW);"),
+    ("a reading that is too large is missing", READING_TEST, "if (litres > MOST_FLOW) litres = MISSING;"),
+    ("no reading is 0", "*day = MISSING;", "*day = 0;"),
+    ("bytes behind no reading are passed over", LENGTH_TESTS,
+     "if (bytes_len < reading_len) return 1; if (bytes_len > reading_len && reading_len > 1) return 8;"),
+    ("a reading is taken from a longer list", LENGTH_TESTS, "if (bytes_len < reading_len) return 1;"),
+    ("a short body is passed over", LENGTH_TESTS, "if (bytes_len > reading_len) return 8;"),
+    ("2 behind 1 and 8", KIND_TEST,
+     f"if (bytes[0] > NO_READING && bytes_len != 5) return bytes_len < 5 ? 1 : 8; {KIND_TEST}"),
+    ("26 before 8", LENGTH_TESTS,
+     "if (bytes_len < reading_len) return 1; if (reading_len == 5 && four_bytes(bytes + 1) >= INFINITE && "
+     "four_bytes(bytes + 1) != MINUS_ZERO) return 26; if (bytes_len > reading_len) return 8;"),
+    ("a day is written before 27", READING_TEST, f"*day = (uint32_t)litres; {READING_TEST}"),
     ("the D days end before the last day", SPELL_TEST, f"last_day -= 1; {SPELL_TEST}"),
     ("the last day's place counts from 1", "if (!within(p, 1, 9999)) return 12; if (!within(duration",
      "last_day -= last_day > 0; if (!within(p, 1, 9999)) return 12; if (!within(duration"),

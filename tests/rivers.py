@@ -6,6 +6,7 @@
 
 The rules are those of tests/rules.py; nothing is shared with the engine. The figures that the source documents publish are asserted where the made river settles them.
 """
+import struct
 import sys
 from fractions import Fraction
 
@@ -219,6 +220,21 @@ def show_step(flow, base, method, p, day):
     out.append(words('step: refused', cause))
 
 
+def metered(result):
+    if isinstance(result, Refusal):
+        return answer(result, '')
+    return words(': day', MISSING if result is None else result)
+
+
+def show_meter(data):
+    out.append(words('meter', len(data)) + metered(rules.meter(data)))
+
+
+def show_float(kind, data):
+    result = metered(rules.meter(bytes([kind]) + data))    # over bytes and as a value
+    out.append(words('meter', kind, int.from_bytes(data, 'little')) + result + ', reading' + result)
+
+
 def thirty_years(seed, gaps):
     days, base = river(10957, seed, gaps), [0] * 10957
     out.append(words('thirty years', gaps) + words(', days', check_sum(days)))
@@ -259,6 +275,10 @@ def full_record():
     show_ratios(2, days, base, [0] * 8192)
     show_staggered(2, 9000, 3, days, base, [0] * (2 * 36525))
     show_bfimax(36_524, 3650, 9780, days, base)
+
+
+def floats(*values):
+    return [struct.pack('<f', value) for value in values]
 
 
 def refusals():
@@ -308,14 +328,41 @@ def refusals():
     show_staggered(2, 9000, 1, days, [7], work)
     show_staggered(1, 9000, 1, days, base, work)
     show_staggered(2, 9000, 1, [5, 10_000_001, 6], base, work)
+    for data in ([], [1], [2, 0, 0, 128], [0], [4, 0, 0, 128, 63], [255, 0, 0, 128, 63, 0], [3, 3],
+                 [1, 0, 0, 128, 127, 0]):
+        show_meter(bytes(data))
+    infinities = floats(float('inf'), float('-inf'))
+    nans = [bytes.fromhex(bits) for bits in ('0000c07f', '0000c0ff', '0100807f', '010080ff')]
+    for data in (*infinities, *nans, *floats(-1e-45, -1, -3.4e38)):
+        show_float(1, data)
+        show_float(2, data)
+    for kind, value in ((2, 10_000_001), (1, 10_000.0009765625), (2, 3.4e38), (1, 3.4e38)):
+        show_float(kind, *floats(value))
     seen = {line.split(': refused ')[1].split(',')[0] for line in out if ': refused ' in line}
-    assert seen == {str(n) for n in range(1, 26)}, seen
+    assert seen == {str(n) for n in range(1, 28)}, seen
 
 
 def half_lives():
     for p in (0, 1, 500, 501, 900, 990, 999, 1000):
         result = rules.half_life(p)
         out.append(words('half-life', p) + (answer(result, '') if isinstance(result, Refusal) else words(': days', result)))
+
+
+def readings():
+    for data in floats(2.5, 3.5, 0.5, 1.5, -0.0, 1e-45, 8_388_607.5, 10_000_000):
+        show_float(2, data)
+    for data in floats(1.5, 0.0005, 0.00049999997, 0.0625, 0.1875, -0.0, 2**-126 - 2**-149, 10_000):
+        show_float(1, data)
+    out.append('meter 3' + metered(rules.meter(b'\x03')) + ', reading' + metered(None))
+
+
+def metered_years():
+    days = river(10957, 4, 3)
+    sent = [b'\x03' if day == MISSING else b'\x02' + struct.pack('<f', day) for day in days]
+    assert [rules.meter(data) for data in sent] == views(days)
+    out.append(words('metered years, days', check_sum(days)))
+    for setting in ((1, 9250, 0, 0), (5, 9780, 8000, 0), (7, 9700, 300, -9999)):
+        show_steps(*setting, days)
 
 
 def published():
@@ -349,6 +396,8 @@ def main():
     full_record()
     refusals()
     half_lives()
+    readings()
+    metered_years()
     published()
     if sys.argv[1:2] != ['check']:
         print('\n'.join(out))

@@ -4,6 +4,8 @@ Whole numbers of any size; a missing day and a day without a value are None. `ov
 Fraction for the exact one. A call answers its values, or the number of its refusal as a Refusal. The sections are those
 of docs/RULES.md, with its numbers.
 """
+import math
+import struct
 from fractions import Fraction
 
 MOST_DAYS, MOST_FLOW, LAST_FIRST_DAY = 36525, 10_000_000, 99_999
@@ -226,6 +228,30 @@ def half_life(p):
     while 2 * p**n > 1000**n:
         n += 1
     return n
+
+
+# "Meter": 16.1 to 16.4
+UNITS = {1: 1000, 2: 1, 3: None}  # litres a second, by kind
+
+
+def meter(data):
+    """The day of a reading."""
+    if not data:
+        return Refusal(1)
+    if data[0] not in UNITS:
+        return Refusal(2)
+    unit, body = UNITS[data[0]], data[1:]
+    size = 4 if unit else 0
+    if len(body) != size:
+        return Refusal(1 if len(body) < size else 8)
+    if not unit:
+        return None
+    value, = struct.unpack("<f", body)
+    if not math.isfinite(value) or value < 0:
+        return Refusal(26)
+    exact = unit * Fraction(value)  # python's floats have every binary32
+    litres = near(exact.numerator, exact.denominator)
+    return Refusal(27) if litres > MOST_FLOW else litres
 
 
 # "Recession ratios": 6.1 to 6.6

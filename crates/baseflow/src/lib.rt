@@ -15,6 +15,7 @@ ghost use Rattle.totals.specs.Call.{totals_outcome};
 ghost use Rattle.bfimax.specs.Call.{spell_of, bfimax_outcome, bfimax_leaves};
 ghost use Rattle.recession.specs.Call.{ratio_outcome, ratio_leaves};
 ghost use Rattle.half_life.specs.Call.{half_life_outcome};
+ghost use Rattle.meter.specs.Call.{meter_outcome};
 ghost use Rattle.baseflow.specs.Interface.{returned, returned_cause, handed_out, setting_of, line_setting_of, state_of, state_numbers, value_out, state_out};
 
 use filter::{DailyFilter, Setting, Yesterday};
@@ -181,6 +182,20 @@ pub fn baseflow_half_life(p: u32, days: &mut u32) -> u32
     match half_life::half_life(p) {
         Ok(n) => {
             *days = n;
+            0
+        }
+        Err(refusal) => refusal.number(),
+    }
+}
+
+// The day that a meter's bytes say.
+pub fn baseflow_meter(bytes: &[u8], day: &mut u32) -> u32
+    ensures value { result ≡ returned (meter_outcome bytes.now) }
+    ensures day_after { day.new ≡ handed_out (λ n. n) (meter_outcome bytes.now) day.old }
+{
+    match meter::meter(bytes) {
+        Ok(said) => {
+            *day = said;
             0
         }
         Err(refusal) => refusal.number(),

@@ -13,6 +13,7 @@ ghost use Rattle.totals.specs.Call.{totals_outcome};
 ghost use Rattle.bfimax.specs.Call.{spell_of, bfimax_outcome, bfimax_leaves};
 ghost use Rattle.recession.specs.Call.{ratio_outcome, ratio_leaves};
 ghost use Rattle.half_life.specs.Call.{half_life_outcome};
+ghost use Rattle.meter.specs.Call.{meter_outcome};
 ghost use Rattle.baseflow.specs.Interface.{returned, returned_cause, handed_out, setting_of, line_setting_of, state_of, value_out, state_out};
 
 // Reads a record into a day list.
@@ -145,6 +146,15 @@ pub extern "C" fn baseflow_half_life(p: u32, days: &mut u32) -> u32
     ensures days_after { days.new ≡ handed_out (λ n. n) (half_life_outcome p) days.old }
 {
     baseflow::baseflow_half_life(p, days)
+}
+
+// The day that a meter's bytes say.
+#[unsafe(no_mangle)]
+pub extern "C" fn baseflow_meter(bytes: &[u8], day: &mut u32) -> u32
+    ensures value { result ≡ returned (meter_outcome bytes.now) }
+    ensures day_after { day.new ≡ handed_out (λ n. n) (meter_outcome bytes.now) day.old }
+{
+    baseflow::baseflow_meter(bytes, day)
 }
 
 // The base value of one day more, with the state that goes from day to day.

@@ -2,12 +2,12 @@
 -- The error laws hold of any nearest whole number, whatever the rule for halves (`error`).
 -- Assumes nothing.
 use Prim.Native.Nat.{ℕ, zero, suc, ◌+◌, ◌*◌, ◌-◌, ◌/◌, ◌%◌, ◌≤◌, ◌<◌}
-use mathlib.Core.Path.{◌≡◌, refl, sym, ◌∙◌, ap, subst}
+use mathlib.Core.Path.{◌≡◌, refl, sym, ◌∙◌, ap, ap₂, subst}
 use mathlib.Core.Logic.{⊎_elim}
 use mathlib.Core.Bool.{Bool, true, false, cond}
 use lib.Dec.{eqb}
 use borrow.Author.Tests.{eq-eqb, ne_eqb}
-use native.Mathlib.Nat.{eq_of_mul-eq-mul_left, mul-pos, mul-le-mul_right, mul-le-mul_left, div-eq_of_lt-le, div-zero, div-add-mod', mod-lt, eq-or-lt_of_le, lt_of_not-le}
+use native.Mathlib.Nat.{eq_of_mul-eq-mul_left, mul_comm, mul-pos, mul-le-mul_right, mul-le-mul_left, div-eq_of_lt-le, div-zero, div-add-mod', mod-lt, eq-or-lt_of_le, lt_of_not-le}
 use native.Mathlib.Decide.{dec_le, ℕ_discrete}
 use native.Mathlib.Omega.{arith}
 use Rattle.numbers.specs.Near.{near, distance, Nearest, NearestHalvesEven}
@@ -134,6 +134,11 @@ near_scaled k a b h p =
       above_even = λ e. r.above_even (eq_of_mul-eq-mul_left k h (2 * (near a b * b)) (2 * a + b) (omega (arith, e)));
       below_even = λ e. r.below_even (eq_of_mul-eq-mul_left k h (2 * a) (2 * (near a b * b) + b) (omega (arith, e)));
     })
+
+-- equal fractions
+pub near_same : (a b c d : ℕ) → 0 < b → 0 < d → a * d ≡ c * b → near a b ≡ near c d
+near_same a b c d p q e =
+    sym (near_scaled d a b q p) ∙ ap₂ near (mul_comm d a ∙ e ∙ mul_comm c b) (mul_comm d b) ∙ near_scaled b c d p q
 
 pub near_by_zero : (a : ℕ) → near a 0 ≡ 0
 unfolding near

@@ -6,9 +6,9 @@ use mathlib.Core.Path.{◌≡◌, refl}
 use mathlib.Core.List.{List, [], ◌∷◌, ◌++◌, map}
 use mathlib.Core.Option.{none, some}
 use lib.ListN.{replicate}
-use Rattle.series.specs.Units.{missing_mark, day_of, within}
+use Rattle.series.specs.Units.{number, missing_mark, day_of, within}
 use Rattle.series.specs.Causes.{Outcome, accepted, refused}
-use Rattle.record.specs.Entries.{number, kind_of, entry_causes}
+use Rattle.record.specs.Entries.{kind_of, entry_causes}
 use Rattle.record.specs.Call.{Stated, view_of, entry_then, days_from, first_day_of, reading, read_leaves}
 
 -- bytes, read into a list of `room` days, and what they come to

@@ -1,7 +1,6 @@
 mod Sentences
 pub mod Accepting
 mod Examples
-mod Bytes
 mod EntryOutcomes
 mod Soundness
 mod Fronts

@@ -11,9 +11,10 @@ use native.Mathlib.Omega.{arith}
 use lib.ListN.{length, get_or, take, drop, length-drop}
 use Rattle.std.proofs.lemmas.List.{get_or-drop}
 use Rattle.series.specs.Causes.{first_cause, accepted, refused, map_outcome}
-use Rattle.record.specs.Entries.{number, Entry, entry_of, is_end, body_length, stated_days, entry_causes}
+use Rattle.series.specs.Units.{number}
+use Rattle.record.specs.Entries.{Entry, entry_of, is_end, body_length, stated_days, entry_causes}
 use Rattle.record.specs.Call.{entry_then, days_from}
-use Rattle.record.proofs.Bytes.{two_bytes, four_bytes}
+use Rattle.series.proofs.Bytes.{two_bytes, four_bytes}
 
 -- A number of a record, wherever it stands in the bytes, is theirs, the lowest byte first.
 module _ (bytes : List ℕ) (at : ℕ) where

@@ -1,7 +1,7 @@
 -- An entry of a record (document 01, "The record"): a byte that tells its kind, and the body of that kind; and the causes that refuse it.
-use Rattle.std.specs.Prelude.{ℕ, ◌+◌, ◌*◌, Bool, true, false, cond, not, ◌&&◌, List, [], ◌∷◌, length, take, drop, replicate, ltb, eqb}
+use Rattle.std.specs.Prelude.{ℕ, ◌+◌, Bool, true, false, cond, not, ◌&&◌, List, [], ◌∷◌, length, take, drop, replicate, ltb, eqb}
 use Rattle.std.proofs.Math.Option.{Option, none, some}
-use Rattle.series.specs.Units.{day_limit, flow_limit, missing_mark, within}
+use Rattle.series.specs.Units.{number, day_limit, flow_limit, missing_mark, within}
 use Rattle.series.specs.Causes.{Cause, cause}
 use Rattle.record.specs.declared.entry.Kind.{Kind}
 use Rattle.record.specs.declared.entry.Kind.TheVariants.{Head, Flow, MissingDay, MissingDays, End}
@@ -9,11 +9,6 @@ use Rattle.record.specs.declared.entry.Kind.TheVariants.{Head, Flow, MissingDay,
 -- the largest first day, as days since 1 January 1900
 abbrev pub first_day_limit : ℕ
 first_day_limit = 99999
-
--- a number of a record has no sign, and its lowest byte comes first
-unfoldable pub number : List ℕ → ℕ
-number [] = 0
-number (b ∷ bs) = b + 256 * number bs
 
 -- the kind that a byte names (`Kind`, of src/entry.rt, has a variant for each); any other byte names none
 unfoldable pub kind_of : ℕ → Option Kind

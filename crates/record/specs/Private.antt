@@ -1,12 +1,12 @@
 -- What the private functions promise. None of this stands in the promise of `read`.
 use Rattle.std.specs.Prelude.{ℕ, ◌+◌, ◌≤◌, ◌≡◌, Bool, true, false, not, ◌&&◌, ltb, eqb, List, [], ◌∷◌, length, take, drop, Option as Perhaps, MatchOption}
 use Rattle.std.proofs.Math.Option.{Option, some, none}
-use Rattle.series.specs.Units.{day_limit}
+use Rattle.series.specs.Units.{number, day_limit}
 use Rattle.series.specs.Causes.{Cause, cause, Outcome, accepted, refused}
 use Rattle.record.specs.declared.entry.Kind.{Kind}
 use Rattle.record.specs.declared.entry.Kind.TheVariants.{Flow, MissingDay, MissingDays}
 use Rattle.record.specs.declared.entry.Entry.{Entry as Found}
-use Rattle.record.specs.Entries.{Entry, entry_of, number, body_length, misplaced, value, entry_causes, out_of_range, days_of, is_end}
+use Rattle.record.specs.Entries.{Entry, entry_of, body_length, misplaced, value, entry_causes, out_of_range, days_of, is_end}
 
 -- the entry at the front of bytes; where there are none, one of no kind
 abbrev pub front : List ℕ → Entry

@@ -61,7 +61,7 @@ pub(crate) struct Entry<'a> {
 impl<'a> Entry<'a> {
     // The entry of a kind whose body comes first in `bytes`, the lowest byte of its number first; none where they end
     // within the body.
-    #[tactic(auto, using(crate::proofs::Bytes::two_read, crate::proofs::Bytes::four_read), unfolding(crate::specs::Entries::number))]
+    #[tactic(auto, using(series::proofs::Bytes::two_read, series::proofs::Bytes::four_read), unfolding(series::specs::Units::number))]
     pub(crate) fn of_kind(kind: Kind, bytes: &'a [u8]) -> Option<Entry<'a>>
         ensures { MatchOption result (length bytes.now < body_length (some kind)) (λ entry. OfKind kind bytes.now entry) }
     {

@@ -8,10 +8,10 @@ use lib.ListN.{replicate}
 use Rattle.numbers.specs.Near.{near}
 use Rattle.numbers.specs.Arithmetic.{weighted}
 use Rattle.numbers.specs.Scan.{onward, recursive}
-use Rattle.series.specs.Units.{is_flow, is_missing, is_invalid_day, day_of, base_of, base_mark, within}
+use Rattle.series.specs.Units.{number, is_flow, is_missing, is_invalid_day, day_of, base_of, base_mark, within}
 use Rattle.series.specs.Segments.{over_segments}
 use Rattle.series.specs.Lists.{too_long, lengths_differ, any_invalid_day, is_invalid_base, any_invalid_base}
-use Rattle.record.specs.Entries.{number, kind_of, entry_causes}
+use Rattle.record.specs.Entries.{kind_of, entry_causes}
 use Rattle.record.specs.Call.{entry_then, days_from, first_day_of, reading}
 use Rattle.filter.specs.Methods.{method_of, method_weights, weights, method_start, start}
 use Rattle.filter.specs.Passes.{step, thousandths, filtered}

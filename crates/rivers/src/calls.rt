@@ -1,11 +1,12 @@
 // Each call over a river, with its answer and the lists that it leaves printed.
-use crate::show;
+use crate::{reading_of, show};
 use filter::{Advanced, DailyFilter, Refused, Setting};
+use meter::Reading;
 use minima::LineSetting;
 use recession::Statistics;
 use record::Reply;
 use series::Refusal;
-use std::io;
+use std::{io, num};
 use totals::Totals;
 
 // A setting without s.
@@ -38,6 +39,59 @@ pub fn half_life(rt: &impl Print, p: u32) -> io::Result<()> {
         Err(refusal) => show::refusal(rt, refusal)?,
     }
     println!(rt;)
+}
+
+// What a reading comes to.
+fn metered(rt: &impl Print, answer: Result<u32, Refusal>) -> io::Result<()> {
+    match answer {
+        Ok(day) => print!(rt; ": day {day}"),
+        Err(refusal) => show::refusal(rt, refusal),
+    }
+}
+
+pub fn meter(rt: &impl Print, bytes: &[u8]) -> io::Result<()> {
+    print!(rt; "meter {}", bytes.len())?;
+    metered(rt, meter::meter(bytes))?;
+    println!(rt;)
+}
+
+// The end of a line with what it comes to as a value.
+fn reading_day(rt: &impl Print, reading: Reading) -> io::Result<()> {
+    print!(rt; ", reading")?;
+    metered(rt, reading.day())?;
+    println!(rt;)
+}
+
+// A float of a kind by its bits, over bytes and as a value.
+pub fn meter_float(rt: &impl Print, kind: u8, bits: u32) -> io::Result<()> {
+    let float = num::f32_from_bits_with_nan(bits);
+    let reading = if kind == 1 {
+        Reading::CubicMetres(float)
+    } else {
+        Reading::Litres(float)
+    };
+    print!(rt; "meter {kind} {bits}")?;
+    metered(rt, meter::meter(&reading_of::float(kind, bits)))?;
+    reading_day(rt, reading)
+}
+
+pub fn no_reading(rt: &impl Print) -> io::Result<()> {
+    print!(rt; "meter 3")?;
+    metered(rt, meter::meter(&[3]))?;
+    reading_day(rt, Reading::NoReading)
+}
+
+// The day that a meter's reading of a day is read as; a refusal is printed, and leaves the day missing.
+pub fn metered_day(rt: &impl Print, day: u32) -> io::Result<u32> {
+    match reading_of::day(day) {
+        Ok(found) => Ok(found),
+        Err(refusal) => {
+            print!(rt; "meter")?;
+            show::refusal(rt, refusal)?;
+            println!(rt;)?;
+            Ok(series::MISSING)
+        }
+    }
 }
 
 // A river, with room for its base flow, and where the calls over it are printed.

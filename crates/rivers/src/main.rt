@@ -4,6 +4,7 @@
 
 mod calls;
 mod published;
+mod reading_of;
 mod record_of;
 mod refusals;
 mod river;
@@ -125,6 +126,51 @@ fn half_lives(rt: &impl Print) -> io::Result<()> {
     Ok(())
 }
 
+// Readings worked through, in litres and in cubic metres.
+fn readings(rt: &impl Print) -> io::Result<()> {
+    for bits in [
+        0x4020_0000, // 2.5
+        0x4060_0000, // 3.5
+        0x3f00_0000, // 0.5
+        0x3fc0_0000, // 1.5
+        0x8000_0000, // negative zero
+        1, // the smallest subnormal
+        0x4aff_ffff, // 8,388,607.5
+        0x4b18_9680, // 10,000,000
+    ] {
+        calls::meter_float(rt, 2, bits)?;
+    }
+    for bits in [
+        0x3fc0_0000, // 1.5
+        0x3a03_126f, // 0.0005
+        0x3a03_126e, // the float below that
+        0x3d80_0000, // 0.0625
+        0x3e40_0000, // 0.1875
+        0x8000_0000, // negative zero
+        0x7f_ffff, // the largest subnormal
+        0x461c_4000, // 10,000
+    ] {
+        calls::meter_float(rt, 1, bits)?;
+    }
+    calls::no_reading(rt)
+}
+
+// Thirty years as a meter sends them, a reading a day, and the steps over what is read.
+fn metered_years(rt: &impl Print) -> io::Result<()> {
+    let mut days = [0u32; 10957];
+    river::fill(&mut days, 4, Gaps::Everywhere);
+    for day in days.iter_mut() {
+        *day = calls::metered_day(rt, *day)?;
+    }
+    print!(rt; "metered years")?;
+    show::list(rt, "days", &days)?;
+    all_steps(&River {
+        rt,
+        days: &days,
+        base: &mut [],
+    })
+}
+
 fn main(rt: HostRuntime) -> io::Result<()> {
     thirty_years(&rt, 1, Gaps::Nowhere)?;
     thirty_years(&rt, 2, Gaps::AtStart)?;
@@ -140,7 +186,11 @@ fn main(rt: HostRuntime) -> io::Result<()> {
     refusals::of_values(&rt)?;
     refusals::of_spells(&rt)?;
     refusals::of_staggered(&rt)?;
+    refusals::of_meters(&rt)?;
+    refusals::of_floats(&rt)?;
     half_lives(&rt)?;
+    readings(&rt)?;
+    metered_years(&rt)?;
     published::recession_constants(&rt)?;
     published::base_flow_indices(&rt)?;
     published::minima_line(&rt)

@@ -182,3 +182,38 @@ pub fn of_staggered(rt: &impl Print) -> io::Result<()> {
     };
     invalid.staggered(2, 9000, 1, &mut work)
 }
+
+// 1, 2, 8.
+pub fn of_meters(rt: &impl Print) -> io::Result<()> {
+    calls::meter(rt, &[])?;
+    calls::meter(rt, &[1])?;
+    calls::meter(rt, &[2, 0, 0, 128])?;
+    calls::meter(rt, &[0])?;
+    calls::meter(rt, &[4, 0, 0, 128, 63])?;
+    calls::meter(rt, &[255, 0, 0, 128, 63, 0])?;
+    calls::meter(rt, &[3, 3])?;
+    calls::meter(rt, &[1, 0, 0, 128, 127, 0])
+}
+
+// 26, 27.
+pub fn of_floats(rt: &impl Print) -> io::Result<()> {
+    for bits in [
+        0x7f80_0000, // infinity
+        0xff80_0000, // and below zero
+        0x7fc0_0000, // a quiet NaN
+        0xffc0_0000, // with a sign
+        0x7f80_0001, // a signalling NaN
+        0xff80_0001, // with a sign
+        0x8000_0001, // the float next below zero
+        0xbf80_0000, // -1
+        0xff7f_c99e, // -3.4e38
+    ] {
+        calls::meter_float(rt, 1, bits)?;
+        calls::meter_float(rt, 2, bits)?;
+    }
+    // next above 10,000,000 litres and 10,000 cubic metres, and 3.4e38 of both
+    calls::meter_float(rt, 2, 0x4b18_9681)?;
+    calls::meter_float(rt, 1, 0x461c_4001)?;
+    calls::meter_float(rt, 2, 0x7f7f_c99e)?;
+    calls::meter_float(rt, 1, 0x7f7f_c99e)
+}

@@ -1,5 +1,5 @@
 -- The day list and the base list (document 01, "Units"): limits, marks, and the readable view of each list.
-use Rattle.std.specs.Prelude.{ℕ, Bool, cond, not, ◌||◌, ◌&&◌, leb, eqb}
+use Rattle.std.specs.Prelude.{ℕ, ◌+◌, ◌*◌, List, [], ◌∷◌, Bool, cond, not, ◌||◌, ◌&&◌, leb, eqb}
 use Rattle.std.proofs.Math.Option.{Option, none, some}
 
 -- the most days that a list may have
@@ -46,3 +46,8 @@ base_mark (some b) = b
 -- a number of a setting lies in its range, from low to high
 unfoldable pub within : (low high n : ℕ) → Bool
 within low high n = leb low n && leb n high
+
+-- a number in bytes has no sign, and its lowest byte comes first
+unfoldable pub number : (bytes : List ℕ) → ℕ
+number [] = 0
+number (b ∷ bs) = b + 256 * number bs

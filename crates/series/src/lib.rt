@@ -21,9 +21,9 @@ pub const NO_VALUE: u64 = 18_446_744_073_709_551_615;
 // The rows of document 01's refusal table, in its order.
 #[derive(Clone, Copy, Debug, PartialEq, Eq)]
 pub enum Refusal {
-    // 1: bytes that run out within a body, or before an end entry
+    // 1: bytes that run out within a body, or before an end entry or a reading
     Truncated = 1,
-    // 2: a kind that is none of 01, 02, 03, 04, 09
+    // 2: a kind that is none of 01, 02, 03, 04, 09, or in a reading none of 01, 02, 03
     UnknownKind = 2,
     // 3: a first entry that is not a head, or a later one that is
     MisplacedHead = 3,
@@ -35,7 +35,7 @@ pub enum Refusal {
     DayListTooShort = 6,
     // 7: an end entry that counts another number of days
     WrongEndCount = 7,
-    // 8: bytes behind the end entry
+    // 8: bytes behind the end entry, or behind a reading
     BytesAfterEnd = 8,
     // 9: a day list of more than 36,525 days
     DayListTooLong = 9,
@@ -71,6 +71,10 @@ pub enum Refusal {
     InvalidSpell = 24,
     // 25: a work list that is not N times as long as the day list
     WorkListLength = 25,
+    // 26: a reading that is not finite, or below zero
+    InvalidReading = 26,
+    // 27: a reading of more than 10,000,000 litres a second
+    ReadingTooLarge = 27,
 }
 
 impl Refusal {

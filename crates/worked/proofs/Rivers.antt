@@ -1,19 +1,21 @@
 -- The rivers that document 01 works through and marks ◆, in one list, with one result over all of it; the checker computes
 -- them.
 -- Assumes nothing.
-use Prim.Native.Nat.{ℕ, ◌*◌}
+use Prim.Native.Nat.{ℕ, ◌*◌, ◌/◌, ◌%◌}
 use mathlib.Core.Path.{◌≡◌, refl}
 use mathlib.Core.Bool.{Bool, true, false, not, ◌&&◌}
 use mathlib.Core.List.{List, [], ◌∷◌, ◌++◌, map}
 use mathlib.Core.Option.{Option, none, some}
 use lib.IntN.{ℤ, pos, negsuc, ◌*ℤ◌}
 use lib.Signed.{le_z}
+use lib.Count.{count_trailing_zeros}
 use lib.Dec.{eqb, lit<}
+use lib.Ieee.{of_bits, of_fields, odd, units, size, span, climb}
 use lib.ListN.{replicate}
 use Rattle.numbers.specs.Near.{near}
 use Rattle.numbers.specs.Fraction.{Fraction, whole, sum, opposite, difference, surplus, multiple, quotient, least}
 use Rattle.numbers.specs.Arithmetic.{rounded, exact, weighted}
-use Rattle.series.specs.Units.{no_value_mark, is_invalid_day, day_of, base_of, base_mark, within}
+use Rattle.series.specs.Units.{number, missing_mark, no_value_mark, is_invalid_day, day_of, base_of, base_mark, within}
 use Rattle.series.specs.Segments.{parts, over_segments}
 use Rattle.series.specs.Causes.{first_cause, Outcome, accepted, refused}
 use Rattle.series.specs.Lists.{too_long, lengths_differ, any_invalid_day, is_invalid_base, any_invalid_base}
@@ -33,6 +35,8 @@ use Rattle.minima.specs.Line.{straight, between as between_points, line_on, line
 use Rattle.staggered.specs.Rule.{lines, present, rank_of, chosen, staggered}
 use Rattle.half_life.specs.Rule.{is_halved, first_from, half_life}
 use Rattle.half_life.specs.Call.{half_life_causes, half_life_outcome}
+use Rattle.meter.specs.Rule.{nearest_litre, is_no_flow, is_too_large, reading_causes, day_said}
+use Rattle.meter.specs.Call.{reading_in, meter_causes, meter_outcome}
 use Rattle.totals.specs.Sums.{base_days, flow_total, base_total, index}
 use Rattle.totals.specs.declared.Totals.{Totals}
 use Rattle.totals.specs.Call.{no_flow, totals_causes, totals_outcome}
@@ -63,8 +67,8 @@ abbrev answers : ℕ → ℕ → Outcome Statistics → Bool
 answers k r (accepted s) = eqb k s.count && eqb r s.median
 answers k r (refused n) = false
 
-abbrev refuses : ℕ → Outcome Statistics → Bool
-refuses n (accepted s) = false
+abbrev refuses : {A : Type 0} → ℕ → Outcome A → Bool
+refuses n (accepted a) = false
 refuses n (refused m) = eqb n m
 
 abbrev no_totals : Outcome Totals → Bool
@@ -234,22 +238,39 @@ staggered_checks =
     ∷ same (chosen_by 3) (none ∷ none ∷ some 12000 ∷ some 11667 ∷ some 11333 ∷ some 11000 ∷ none ∷ none ∷ none ∷ [])
     ∷ []
 
--- a half-life of n days, and p out of range
-abbrev halves_after : (n : ℕ) → Outcome ℕ → Bool
-halves_after n (accepted m) = eqb n m
-halves_after n (refused m) = false
-
-abbrev no_half_life : Outcome ℕ → Bool
-no_half_life (accepted m) = false
-no_half_life (refused m) = eqb m 12
+-- a call answers the number n
+abbrev gives : (n : ℕ) → Outcome ℕ → Bool
+gives n (accepted m) = eqb n m
+gives n (refused m) = false
 
 half_life_checks : List Bool
 unfolding half_life_outcome half_life_causes within half_life first_from is_halved
 half_life_checks =
-    halves_after 1 (half_life_outcome 500) ∷ halves_after 2 (half_life_outcome 501) ∷ halves_after 7 (half_life_outcome 900)
-    ∷ halves_after 69 (half_life_outcome 990) ∷ halves_after 693 (half_life_outcome 999) ∷ halves_after 1 (half_life_outcome 1)
-    ∷ no_half_life (half_life_outcome 0) ∷ no_half_life (half_life_outcome 1000) ∷ []
+    gives 1 (half_life_outcome 500) ∷ gives 2 (half_life_outcome 501) ∷ gives 7 (half_life_outcome 900)
+    ∷ gives 69 (half_life_outcome 990) ∷ gives 693 (half_life_outcome 999) ∷ gives 1 (half_life_outcome 1)
+    ∷ refuses 12 (half_life_outcome 0) ∷ refuses 12 (half_life_outcome 1000) ∷ []
 
-rivers : every (filter_checks ++ line_checks ++ dry_checks ++ ratio_checks ++ staggered_checks ++ half_life_checks) ≡ true
-unfolding filter_checks line_checks dry_checks ratio_checks staggered_checks half_life_checks
+-- what a meter's float comes to, by its bits: 1 in cubic metres, 2 in litres
+abbrev metered : (kind bits : ℕ) → Outcome ℕ
+metered kind bits = meter_outcome (kind ∷ bits % 256 ∷ bits / 256 % 256 ∷ bits / 65536 % 256 ∷ bits / 16777216 ∷ [])
+
+meter_checks : List Bool
+unfolding meter_outcome meter_causes reading_causes reading_in day_said number within is_no_flow is_too_large nearest_litre near of_bits of_fields odd units size span climb count_trailing_zeros
+meter_checks =
+    -- 2.5, 3.5 and 1.5
+    gives 2 (metered 2 0x4020_0000) ∷ gives 4 (metered 2 0x4060_0000) ∷ gives 1500 (metered 1 0x3fc0_0000)
+    -- the float nearest to 0.0005, negative zero, the smallest subnormal number, 8,388,607.5
+    ∷ gives 1 (metered 1 0x3a03_126f) ∷ gives 0 (metered 2 0x8000_0000) ∷ gives 0 (metered 1 1)
+    ∷ gives 8388608 (metered 2 0x4aff_ffff)
+    -- 10,000,000 litres and 10,000 cubic metres, and the next floats
+    ∷ gives 10000000 (metered 2 0x4b18_9680) ∷ refuses 27 (metered 2 0x4b18_9681)
+    ∷ gives 10000000 (metered 1 0x461c_4000) ∷ refuses 27 (metered 1 0x461c_4001)
+    -- infinity, a quiet and a signalling NaN, the largest number below zero, 3.4 × 10^38
+    ∷ refuses 26 (metered 1 0x7f80_0000) ∷ refuses 26 (metered 2 0x7fc0_0000) ∷ refuses 26 (metered 1 0x7f80_0001)
+    ∷ refuses 26 (metered 2 0x8000_0001) ∷ refuses 27 (metered 2 0x7f7f_c99e)
+    -- no reading
+    ∷ gives missing_mark (meter_outcome (3 ∷ [])) ∷ []
+
+rivers : every (filter_checks ++ line_checks ++ dry_checks ++ ratio_checks ++ staggered_checks ++ half_life_checks ++ meter_checks) ≡ true
+unfolding filter_checks line_checks dry_checks ratio_checks staggered_checks half_life_checks meter_checks
 rivers = refl

@@ -7,7 +7,7 @@ use native.Mathlib.Omega.{arith}
 use lib.ListN.{length, get_or, take}
 use Rattle.std.proofs.lemmas.List.{get_or-take}
 use Rattle.std.specs.Int.{from_le_bytes, w16, w32}
-use Rattle.record.specs.Entries.{number}
+use Rattle.series.specs.Units.{number}
 
 pub two_bytes : (s : List ℕ) → 2 ≤ length s → number (take 2 s) ≡ get_or s 0 0 + 256 * get_or s 1 0
 unfolding number

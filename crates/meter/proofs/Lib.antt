@@ -1,0 +1,5 @@
+pub mod Sentences
+pub mod Steps
+mod Examples
+mod Values
+mod Floats
