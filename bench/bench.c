@@ -13,11 +13,14 @@
 #include "baseflow.h"
 #include "reference.h"
 
-enum { RUNS = 25, RUN_NANOSECONDS = 4000000, STACK = 1 << 18, PAINT = 0xc3, SIZES = 3, MOST = BASEFLOW_MOST_DAYS };
+enum { RUNS = 25, RUN_NANOSECONDS = 4000000, STACK = 1 << 19, PAINT = 0xc3, SIZES = 3, MOST = BASEFLOW_MOST_DAYS };
 static const uint32_t sizes[SIZES] = {1000, 10000, MOST};
 
 enum input { FLOWS, GAPS, MIXED, LATE, SUMMERS, LENGTHS, TWOS };
-enum call { READ, FILTER, STEP, LINE, TOTALS, RECESSION, BFIMAX, STAGGERED, HALF_LIFE, METER };
+enum call {
+    READ, FILTER, STEP, LINE, TOTALS, RECESSION, BFIMAX, STAGGERED, HALF_LIFE, METER, TO_BITS, FROM_BITS, FILTER_BITS,
+    TOTALS_BITS
+};
 
 static const struct job {
     const char *name;
@@ -58,6 +61,12 @@ static const struct job {
     {"meter, a call for a reading", METER, FLOWS, 0, 0, 0, 0, 0},
     {"bfimax, D 365", BFIMAX, FLOWS, 365, 9700, 0, 0, 0},
     {"bfimax, D 3650 or all", BFIMAX, FLOWS, 3650, 9700, 0, 0, 0},
+    {"to bits, few gaps", TO_BITS, GAPS, 0, 0, 0, 0, 0},
+    {"to bits, many gaps", TO_BITS, MIXED, 0, 0, 0, 0, 0},
+    {"from bits, few gaps", FROM_BITS, GAPS, 0, 0, 0, 0, 0},
+    {"from bits, many gaps", FROM_BITS, MIXED, 0, 0, 0, 0, 0},
+    {"filter over bits, method 1", FILTER_BITS, GAPS, 1, 9250, 0, 0, 1},
+    {"totals over bits, few gaps", TOTALS_BITS, GAPS, 0, 0, 0, 0, 0},
 };
 enum { JOBS = sizeof jobs / sizeof *jobs };
 
@@ -66,6 +75,8 @@ static size_t bytes_len;
 static uint32_t days[MOST];
 static uint64_t given_base[MOST];
 static uint8_t readings[MOST][5];
+static uint32_t given_flows[MOST];
+static uint64_t given_words[(MOST + 63) / 64];
 static uint32_t count;
 
 static struct result {
@@ -73,6 +84,8 @@ static struct result {
     uint64_t large[3];
     uint32_t days[MOST], limbs[MOST];
     uint64_t base[MOST], work[30 * MOST];
+    uint32_t flows[MOST];
+    uint64_t words[(MOST + 63) / 64];
 } engine_result, reference_result;
 
 // ---- input
@@ -151,8 +164,18 @@ static void give_base(const struct job *job)
         abort();
 }
 
+// The same days as flows and words.
+static void give_bits(void)
+{
+    memset(given_words, 0, sizeof given_words);
+    for (uint32_t t = 0; t < count; t++) {
+        given_flows[t] = days[t] == BASEFLOW_MISSING ? 0 : days[t];
+        given_words[t / 64] |= (uint64_t)(days[t] != BASEFLOW_MISSING) << t % 64;
+    }
+}
+
 // A river of storms and recessions (or one whose line comes late, one that is dry for a third of each year, or one of
-// limbs of chosen lengths), its record, and the base flow that is given.
+// limbs of chosen lengths), its record, its flows and words, and the base flow that is given.
 static void prepare(const struct job *job, uint32_t size)
 {
     static uint32_t laid[MOST];
@@ -185,6 +208,7 @@ static void prepare(const struct job *job, uint32_t size)
     }
     put(BASEFLOW_END, size, 4);
     lay_readings(size);
+    give_bits();
     give_base(job);
 }
 
@@ -194,6 +218,9 @@ static uintptr_t stack_before;
 
 // Where the stack stands as a call is made.
 #define NOTE_STACK() __asm__ volatile("mov %%rsp, %0" : "=m"(stack_before))
+
+#define WORDS ((count + 63) / 64)
+#define BITS given_flows, count, given_words, WORDS
 
 #define PERFORM(prefix, job, r)                                                                                        \
     do {                                                                                                               \
@@ -235,6 +262,20 @@ static uintptr_t stack_before;
         case RECESSION:                                                                                                \
             (r)->answer = prefix##recession((job)->first, days, count, given_base, count, (r)->limbs, count,           \
                                             &(r)->small[0], &(r)->small[1]);                                           \
+            break;                                                                                                     \
+        case TO_BITS:                                                                                                  \
+            (r)->answer = prefix##to_bits(days, count, (r)->flows, count, (r)->words, WORDS, &(r)->small[0]);          \
+            break;                                                                                                     \
+        case FROM_BITS:                                                                                                \
+            (r)->answer = prefix##from_bits(BITS, (r)->days, count, &(r)->small[0]);                                   \
+            break;                                                                                                     \
+        case FILTER_BITS:                                                                                              \
+            (r)->answer = prefix##filter_bits((job)->first, (job)->p, (job)->q, (job)->s, (job)->passes, BITS,         \
+                                              (r)->base, count);                                                       \
+            break;                                                                                                     \
+        case TOTALS_BITS:                                                                                              \
+            (r)->answer = prefix##totals_bits(BITS, given_base, count, &(r)->small[0], &(r)->large[0],                 \
+                                              &(r)->large[1], &(r)->large[2], &(r)->small[1]);                         \
             break;                                                                                                     \
         default:                                                                                                       \
             (r)->answer = prefix##bfimax(count - 1, (job)->first < count ? (job)->first : count, (job)->p, days,       \

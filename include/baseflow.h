@@ -36,8 +36,8 @@
  *   - No allocation, no input or output, no exit, no panic. Of the C library only memset is needed. No floating point,
  *     but vector registers may be used, as by any code for x86-64.
  *   - Every call ends, after a time that grows linearly with the lengths that it is given.
- *   - Stack, as bench/run measures it: baseflow_recession keeps three arrays of counters and needs 147 KiB, all others
- *     stay below 1 KiB.
+ *   - Stack, as bench/run measures it: baseflow_recession keeps three arrays of counters and needs 147 KiB; a call over
+ *     presence bits lays out its days and needs 144 KiB more than its sister; all others stay below 1 KiB.
  */
 #ifndef BASEFLOW_H
 #define BASEFLOW_H
@@ -109,7 +109,8 @@ enum baseflow_answer {
     BASEFLOW_BAD_SPELL = 24,       /* a last day outside the list, or a missing day or none on one of the D days */
     BASEFLOW_BAD_WORK = 25,        /* a work list that is not N times as long as the day list */
     BASEFLOW_BAD_READING = 26,     /* a reading that is not finite, or below zero */
-    BASEFLOW_READING_TOO_LARGE = 27 /* a reading of more than 10,000,000 litres a second */
+    BASEFLOW_READING_TOO_LARGE = 27, /* a reading of more than 10,000,000 litres a second */
+    BASEFLOW_BAD_PRESENCE = 28     /* presence words that are too many or too few, a one past the last day, or a flow under a zero */
 };
 
 /*
@@ -245,6 +246,54 @@ uint32_t baseflow_half_life(uint32_t p, uint32_t *days);
  * The distance that a filter keeps from the exact run is counted from this day, and not from the float.
  */
 uint32_t baseflow_meter(const uint8_t *bytes, size_t bytes_len, uint32_t *day);
+
+/* ---- Days as flows and presence bits
+ *
+ * A second form of a day list, for whoever scans for gaps: `flows` has a number a day, 0 on a missing one, and `words` one
+ * bit a day: bit i mod 64, the lowest first, of word i / 64 is one where day i is present. Bits past the last day are zero,
+ * and there are (days + 63) / 64 words.
+ */
+
+/*
+ * The form of a day list.
+ *
+ * Refuses: 9, 14 (flows not as long as days), 28 (the number of words alone), 10.
+ * On 0: flows and words are written in full, *present is the number of present days: the ones in the words.
+ */
+uint32_t baseflow_to_bits(const uint32_t *days, size_t days_len, uint32_t *flows, size_t flows_len, uint64_t *words,
+                          size_t words_len, uint32_t *present);
+
+/*
+ * The day list of a form.
+ *
+ * Refuses: 9, 14 (days not as long as flows), 28, 10 (under a one a number above 10,000,000, BASEFLOW_MISSING too).
+ * On 0: days is written in full, *present is the number of present days: the ones in the words.
+ */
+uint32_t baseflow_from_bits(const uint32_t *flows, size_t flows_len, const uint64_t *words, size_t words_len,
+                            uint32_t *days, size_t days_len, uint32_t *present);
+
+/*
+ * The calls over a day list, over flows and words in its place: over a form that converts, each answers and writes what its
+ * sister does over the days of that form. Each refuses in its sister's order, with 28 just before 10; its 14 compares base
+ * with flows. The days are laid out on the call's own stack: 144 KiB more than its sister needs.
+ */
+uint32_t baseflow_filter_bits(uint32_t method, uint32_t p, uint32_t q, int32_t s, uint32_t passes, const uint32_t *flows,
+                              size_t flows_len, const uint64_t *words, size_t words_len, uint64_t *base,
+                              size_t base_len);
+uint32_t baseflow_line_bits(uint32_t block_days, uint32_t factor, const uint32_t *flows, size_t flows_len,
+                            const uint64_t *words, size_t words_len, uint64_t *base, size_t base_len);
+uint32_t baseflow_staggered_bits(uint32_t block_days, uint32_t factor, uint32_t choice, const uint32_t *flows,
+                                 size_t flows_len, const uint64_t *words, size_t words_len, uint64_t *base,
+                                 size_t base_len, uint64_t *work, size_t work_len);
+uint32_t baseflow_totals_bits(const uint32_t *flows, size_t flows_len, const uint64_t *words, size_t words_len,
+                              const uint64_t *base, size_t base_len, uint32_t *base_days, uint64_t *flow_total,
+                              uint64_t *base_total, uint64_t *quick_total, uint32_t *index);
+uint32_t baseflow_recession_bits(uint32_t limb_days, const uint32_t *flows, size_t flows_len, const uint64_t *words,
+                                 size_t words_len, const uint64_t *base, size_t base_len, uint32_t *limbs,
+                                 size_t limbs_len, uint32_t *ratio_count, uint32_t *ratio);
+uint32_t baseflow_bfimax_bits(uint32_t last_day, uint32_t duration, uint32_t p, const uint32_t *flows, size_t flows_len,
+                              const uint64_t *words, size_t words_len, uint64_t *base, size_t base_len,
+                              uint32_t *bfimax);
 
 #ifdef __cplusplus
 }

@@ -6,6 +6,24 @@
 #include "differential.h"
 #include "reference.h"
 
+// What a call over presence bits has besides its refusals of its own: as many rows, in this order, for each.
+#define OVER_BITS(X, id, call)                                                                                         \
+    X(id##_9, call, "refused 9")                                                                                       \
+    X(id##_9_WORDS, call, "refused 9, where 28 holds too")                                                             \
+    X(id##_14_SHORT, call, "refused 14, the other list short")                                                         \
+    X(id##_14_LONG, call, "refused 14, the other list long")                                                           \
+    X(id##_14_WORDS, call, "refused 14, where 28 holds too")                                                           \
+    X(id##_28_FEW, call, "refused 28, a word too few")                                                                 \
+    X(id##_28_MANY, call, "refused 28, a word too many")                                                               \
+    X(id##_28_END, call, "refused 28, a one past the end alone")                                                       \
+    X(id##_28_END_NEXT, call, "refused 28, a one just past the end alone")                                             \
+    X(id##_28_FLOW, call, "refused 28, a flow under a zero bit alone")                                                 \
+    X(id##_28_DAY, call, "refused 28, where 10 holds too")                                                             \
+    X(id##_10_MARK, call, "refused 10, the mark under a one bit")                                                      \
+    X(id##_10_OTHER, call, "refused 10, another number under a one bit")                                               \
+    X(id##_GAPS, call, "accepted, absent days in several words")                                                       \
+    X(id##_PLAIN, call, "accepted, no absent day")
+
 #define BRANCHES(X)                                                                                                    \
     X(READ_1_EMPTY, "read", "refused 1, no bytes")                                                                     \
     X(READ_1_HEAD, "read", "refused 1, head cut")                                                                      \
@@ -370,7 +388,73 @@
     X(BFIMAX_ANSWER_HALF_BELOW, "bfimax", "accepted, BFImax at a half, even below")                                    \
     X(BFIMAX_ANSWER_HALF_ABOVE, "bfimax", "accepted, BFImax at a half, even above")                                    \
     X(BFIMAX_MOST_DAYS, "bfimax", "accepted, 36,525 days")                                                             \
-    X(BFIMAX_LATE, "bfimax", "accepted, D 3,650 at the end of 36,525 days")
+    X(BFIMAX_LATE, "bfimax", "accepted, D 3,650 at the end of 36,525 days")                                            \
+    X(TO_BITS_9, "to_bits", "refused 9")                                                                               \
+    X(TO_BITS_9_LENGTHS, "to_bits", "refused 9, where 14 holds too")                                                   \
+    X(TO_BITS_14_SHORT, "to_bits", "refused 14, flows short")                                                          \
+    X(TO_BITS_14_LONG, "to_bits", "refused 14, flows long")                                                            \
+    X(TO_BITS_14_WORDS, "to_bits", "refused 14, where 28 holds too")                                                   \
+    X(TO_BITS_28_FEW, "to_bits", "refused 28, a word too few")                                                         \
+    X(TO_BITS_28_MANY, "to_bits", "refused 28, a word too many")                                                       \
+    X(TO_BITS_28_PER_DAY, "to_bits", "refused 28, a word for each of several days")                                    \
+    X(TO_BITS_28_NO_DAY, "to_bits", "refused 28, a word for no day")                                                   \
+    X(TO_BITS_28_DAY, "to_bits", "refused 28, where 10 holds too")                                                     \
+    X(TO_BITS_10, "to_bits", "refused 10")                                                                             \
+    X(TO_BITS_10_NEXT, "to_bits", "refused 10, 10,000,001")                                                            \
+    X(TO_BITS_10_LATE, "to_bits", "refused 10, the last day alone, in a further word")                                 \
+    X(TO_BITS_DAYS_0, "to_bits", "accepted, no day")                                                                   \
+    X(TO_BITS_DAYS_1, "to_bits", "accepted, 1 day")                                                                    \
+    X(TO_BITS_DAYS_63, "to_bits", "accepted, 63 days")                                                                 \
+    X(TO_BITS_DAYS_64, "to_bits", "accepted, 64 days")                                                                 \
+    X(TO_BITS_DAYS_65, "to_bits", "accepted, 65 days")                                                                 \
+    X(TO_BITS_DAYS_128, "to_bits", "accepted, 128 days")                                                               \
+    X(TO_BITS_LONG, "to_bits", "accepted, over 1,000 days")                                                            \
+    X(TO_BITS_MOST_DAYS, "to_bits", "accepted, 36,525 days")                                                           \
+    X(TO_BITS_NONE, "to_bits", "accepted, every day absent")                                                           \
+    X(TO_BITS_ALL, "to_bits", "accepted, every day present")                                                           \
+    X(TO_BITS_BOTH, "to_bits", "accepted, absent and present days in a word")                                          \
+    OVER_BITS(X, FROM_BITS, "from_bits")                                                                               \
+    X(FROM_BITS_9_LENGTHS, "from_bits", "refused 9, where 14 holds too")                                               \
+    X(FROM_BITS_28_PER_DAY, "from_bits", "refused 28, a word for each of several days")                                \
+    X(FROM_BITS_28_NO_DAY, "from_bits", "refused 28, a word for no day")                                               \
+    X(FROM_BITS_28_MARK, "from_bits", "refused 28, the mark under a zero bit")                                         \
+    X(FROM_BITS_28_LIMIT, "from_bits", "refused 28, 10,000,001 under a zero bit")                                      \
+    X(FROM_BITS_10_NEXT, "from_bits", "refused 10, 10,000,001 under a one bit")                                        \
+    X(FROM_BITS_DAYS_0, "from_bits", "accepted, no day")                                                               \
+    X(FROM_BITS_DAYS_1, "from_bits", "accepted, 1 day")                                                                \
+    X(FROM_BITS_DAYS_63, "from_bits", "accepted, 63 days")                                                             \
+    X(FROM_BITS_DAYS_64, "from_bits", "accepted, 64 days")                                                             \
+    X(FROM_BITS_DAYS_65, "from_bits", "accepted, 65 days")                                                             \
+    X(FROM_BITS_DAYS_128, "from_bits", "accepted, 128 days")                                                           \
+    X(FROM_BITS_LONG, "from_bits", "accepted, over 1,000 days")                                                        \
+    X(FROM_BITS_MOST_DAYS, "from_bits", "accepted, 36,525 days")                                                       \
+    X(FROM_BITS_NONE, "from_bits", "accepted, every day absent")                                                       \
+    X(FROM_BITS_ALL, "from_bits", "accepted, every day present")                                                       \
+    X(FROM_BITS_BOTH, "from_bits", "accepted, absent and present days in a word")                                      \
+    OVER_BITS(X, FILTER_BITS, "filter_bits")                                                                           \
+    X(FILTER_BITS_11, "filter_bits", "refused 11, where 28 holds too")                                                 \
+    X(FILTER_BITS_12, "filter_bits", "refused 12, where 28 holds too")                                                 \
+    X(FILTER_BITS_13, "filter_bits", "refused 13, where 28 holds too")                                                 \
+    OVER_BITS(X, LINE_BITS, "line_bits")                                                                               \
+    X(LINE_BITS_16, "line_bits", "refused 16, where 28 holds too")                                                     \
+    X(LINE_BITS_17, "line_bits", "refused 17")                                                                         \
+    OVER_BITS(X, TOTALS_BITS, "totals_bits")                                                                           \
+    X(TOTALS_BITS_20, "totals_bits", "refused 20")                                                                     \
+    X(TOTALS_BITS_21, "totals_bits", "refused 21")                                                                     \
+    OVER_BITS(X, RECESSION_BITS, "recession_bits")                                                                     \
+    X(RECESSION_BITS_18, "recession_bits", "refused 18, where 28 holds too")                                           \
+    X(RECESSION_BITS_20, "recession_bits", "refused 20")                                                               \
+    X(RECESSION_BITS_19, "recession_bits", "refused 19")                                                               \
+    X(RECESSION_BITS_22, "recession_bits", "refused 22")                                                               \
+    OVER_BITS(X, BFIMAX_BITS, "bfimax_bits")                                                                           \
+    X(BFIMAX_BITS_12, "bfimax_bits", "refused 12, where 28 holds too")                                                 \
+    X(BFIMAX_BITS_23, "bfimax_bits", "refused 23, where 28 holds too")                                                 \
+    X(BFIMAX_BITS_24, "bfimax_bits", "refused 24")                                                                     \
+    X(BFIMAX_BITS_21, "bfimax_bits", "refused 21")                                                                     \
+    OVER_BITS(X, STAGGERED_BITS, "staggered_bits")                                                                     \
+    X(STAGGERED_BITS_16, "staggered_bits", "refused 16, where 28 holds too")                                           \
+    X(STAGGERED_BITS_25, "staggered_bits", "refused 25, where 28 holds too")                                           \
+    X(STAGGERED_BITS_17, "staggered_bits", "refused 17")
 
 #define AS_NUMBER(id, call, name) id,
 #define AS_ROW(id, call, name) {call, name, 0},
@@ -1367,6 +1451,167 @@ static void count_bfimax(const struct test_case *c, uint32_t answer, const struc
     }
 }
 
+// ---- presence bits
+
+// What a case's flows and words are like: whether there are as many words as the flows want, where the first one past
+// the end is (the number of bits for none), how many flows stand under a zero bit, how many marks and how many other
+// numbers above the limit under a one bit, and how many days are present and absent.
+struct bits_view {
+    int counted;
+    size_t past, kept, marks, large, present, absent;
+};
+
+static struct bits_view view_bits(const struct test_case *c)
+{
+    struct bits_view view = {.counted = c->words_len == words_for(c->flows_len)};
+    size_t bits = 64 * c->words_len, count = c->flows_len < bits ? c->flows_len : bits;
+    for (size_t t = 0; t < count; t++) {
+        int one = bit_of(c, t);
+        view.present += (size_t)one;
+        view.absent += !one;
+        view.kept += !one && c->flows[t] != 0;
+        view.marks += one && c->flows[t] == MISSING;
+        view.large += one && c->flows[t] != MISSING && c->flows[t] > MOST_FLOW;
+    }
+    for (view.past = c->flows_len; view.past < bits && !bit_of(c, view.past);)
+        view.past++;
+    return view;
+}
+
+static int holds_28(const struct test_case *c, const struct bits_view *view)
+{
+    return !view->counted || view->past < 64 * c->words_len || view->kept > 0;
+}
+
+static void count_28(const struct test_case *c, const struct bits_view *view, enum branch few)
+{
+    size_t right = words_for(c->flows_len);
+    int past = view->past < 64 * c->words_len, kept = view->kept > 0;
+    hit_if(c->words_len + 1 == right, few);
+    hit_if(c->words_len == right + 1, behind(few, 1));
+    hit_if(view->counted && past && !kept, behind(few, 2));
+    hit_if(view->counted && past && !kept && view->past == c->flows_len, behind(few, 3));
+    hit_if(view->counted && kept && !past, behind(few, 4));
+    hit_if(view->marks + view->large > 0, behind(few, 5));
+}
+
+// The rows that every call over flows and words has, from that of 9 on. The other list is the base list or, in a
+// conversion, the day list. Any other answer is for the caller to count.
+static int counts_over_bits(const struct test_case *c, uint32_t answer, size_t other_len, enum branch nine)
+{
+    struct bits_view view = view_bits(c);
+    switch (answer) {
+    case 9:
+        hit(nine);
+        hit_if(holds_28(c, &view), behind(nine, 1));
+        return 1;
+    case 14:
+        hit(behind(nine, other_len < c->flows_len ? 2 : 3));
+        hit_if(holds_28(c, &view), behind(nine, 4));
+        return 1;
+    case 28:
+        count_28(c, &view, behind(nine, 5));
+        return 1;
+    case 10:
+        hit_if(view.marks > 0, behind(nine, 11));
+        hit_if(view.marks == 0, behind(nine, 12));
+        return 1;
+    case 0:
+        hit_if(view.absent > 0 && c->words_len > 1, behind(nine, 13));
+        hit_if(view.present == c->flows_len && c->flows_len > 0, behind(nine, 14));
+        return 1;
+    default:
+        return 0;
+    }
+}
+
+// An accepted conversion, from its row of no day on.
+static void count_converted(size_t days, size_t present, enum branch none)
+{
+    static const size_t sizes[] = {0, 1, 63, 64, 65, 128};
+    for (uint32_t i = 0; i < 6; i++)
+        hit_if(days == sizes[i], behind(none, i));
+    hit_if(days > 1000, behind(none, 6));
+    hit_if(days == MOST_DAYS, behind(none, 7));
+    hit_if(days > 0 && present == 0, behind(none, 8));
+    hit_if(days > 0 && present == days, behind(none, 9));
+    hit_if(days <= 64 && 0 < present && present < days, behind(none, 10));
+}
+
+static void count_to_bits(const struct test_case *c, uint32_t answer, uint32_t present)
+{
+    size_t right = words_for(c->days_len), bad = 0;
+    while (bad < c->days_len && (c->days[bad] <= MOST_FLOW || c->days[bad] == MISSING))
+        bad++;
+    switch (answer) {
+    case 9:
+        hit(TO_BITS_9);
+        hit_if(c->flows_len != c->days_len, TO_BITS_9_LENGTHS);
+        break;
+    case 14:
+        hit(c->flows_len < c->days_len ? TO_BITS_14_SHORT : TO_BITS_14_LONG);
+        hit_if(c->words_len != right, TO_BITS_14_WORDS);
+        break;
+    case 28:
+        hit_if(c->words_len + 1 == right, TO_BITS_28_FEW);
+        hit_if(c->words_len == right + 1, TO_BITS_28_MANY);
+        hit_if(c->words_len == c->days_len && c->days_len > 1, TO_BITS_28_PER_DAY);
+        hit_if(c->days_len == 0, TO_BITS_28_NO_DAY);
+        hit_if(bad < c->days_len, TO_BITS_28_DAY);
+        break;
+    case 10:
+        hit(TO_BITS_10);
+        hit_if(c->days[bad] == MOST_FLOW + 1, TO_BITS_10_NEXT);
+        hit_if(bad + 1 == c->days_len && bad >= 64, TO_BITS_10_LATE);
+        break;
+    default:
+        count_converted(c->days_len, present, TO_BITS_DAYS_0);
+    }
+}
+
+static void count_from_bits(const struct test_case *c, uint32_t answer, uint32_t present)
+{
+    counts_over_bits(c, answer, c->days_len, FROM_BITS_9);
+    if (answer == 0)
+        count_converted(c->flows_len, present, FROM_BITS_DAYS_0);
+    hit_if(answer == 9 && c->days_len != c->flows_len, FROM_BITS_9_LENGTHS);
+    for (size_t t = 0; t < c->flows_len && answer == 10; t++)
+        hit_if(c->flows[t] == MOST_FLOW + 1, FROM_BITS_10_NEXT);
+    if (answer != 28)
+        return;
+    hit_if(c->words_len == c->flows_len && c->flows_len > 1, FROM_BITS_28_PER_DAY);
+    hit_if(c->flows_len == 0, FROM_BITS_28_NO_DAY);
+    for (size_t t = 0; t < c->flows_len && t < 64 * c->words_len; t++) {
+        hit_if(!bit_of(c, t) && c->flows[t] == MISSING, FROM_BITS_28_MARK);
+        hit_if(!bit_of(c, t) && c->flows[t] == MOST_FLOW + 1, FROM_BITS_28_LIMIT);
+    }
+}
+
+// The refusals that a call over presence bits has from its sister: before 28, where that holds too, or behind 10.
+static void count_over_bits(const struct test_case *c, uint32_t answer)
+{
+    static const struct {
+        enum branch nine, others;
+        uint32_t before[3], behind[3];
+    } calls[] = {
+        {FILTER_BITS_9, FILTER_BITS_11, {11, 12, 13}, {0}},
+        {LINE_BITS_9, LINE_BITS_16, {16}, {17}},
+        {TOTALS_BITS_9, TOTALS_BITS_20, {0}, {20, 21}},
+        {RECESSION_BITS_9, RECESSION_BITS_18, {18}, {20, 19, 22}},
+        {BFIMAX_BITS_9, BFIMAX_BITS_12, {12, 23}, {24, 21}},
+        {STAGGERED_BITS_9, STAGGERED_BITS_16, {16, 25}, {17}},
+    };
+    size_t i = c->call - FILTER_BITS;
+    if (counts_over_bits(c, answer, c->base_len, calls[i].nine))
+        return;
+    struct bits_view view = view_bits(c);
+    enum branch row = calls[i].others;
+    for (size_t n = 0; n < 3 && calls[i].before[n] != 0; n++, row = behind(row, 1))
+        hit_if(answer == calls[i].before[n] && holds_28(c, &view), row);
+    for (size_t n = 0; n < 3 && calls[i].behind[n] != 0; n++, row = behind(row, 1))
+        hit_if(answer == calls[i].behind[n], row);
+}
+
 void count_branch(const struct test_case *c, uint32_t answer, const struct outs *outs, const uint64_t *base,
                   const uint64_t *work)
 {
@@ -1402,7 +1647,16 @@ void count_branch(const struct test_case *c, uint32_t answer, const struct outs 
     case RECESSION:
         count_recession(c, answer, outs);
         break;
-    default:
+    case TO_BITS:
+        count_to_bits(c, answer, outs->small[0]);
+        break;
+    case FROM_BITS:
+        count_from_bits(c, answer, outs->small[0]);
+        break;
+    case BFIMAX:
         count_bfimax(c, answer, outs, base);
+        break;
+    default:
+        count_over_bits(c, answer);
     }
 }

@@ -23,14 +23,17 @@
 #include "differential.h"
 #include "reference.h"
 
-enum list { BYTES, DAYS, BASE, LIMBS, WORK, LISTS };
+enum list { BYTES, DAYS, BASE, LIMBS, WORK, FLOWS, WORDS, LISTS };
 enum { GUARD = 64, GUARD_BYTE = 0x5a };
 
-static const char *const call_names[CALLS] = {"read", "filter", "step", "steps", "line", "totals", "recession",
-                                             "bfimax", "staggered", "half_life", "meter"};
-static const char *const list_names[LISTS] = {"bytes", "days", "base", "limbs", "work"};
-static const size_t widths[LISTS] = {1, 4, 8, 4, 8};
-static const size_t rooms[LISTS] = {ROOM_BYTES, ROOM_DAYS, ROOM_DAYS, ROOM_DAYS, ROOM_WORK};
+static const char *const call_names[CALLS] = {
+    "read", "filter", "step", "steps", "line", "totals", "recession", "bfimax", "staggered", "half_life", "meter",
+    "to_bits", "from_bits", "filter_bits", "line_bits", "totals_bits", "recession_bits", "bfimax_bits",
+    "staggered_bits",
+};
+static const char *const list_names[LISTS] = {"bytes", "days", "base", "limbs", "work", "flows", "words"};
+static const size_t widths[LISTS] = {1, 4, 8, 4, 8, 4, 8};
+static const size_t rooms[LISTS] = {ROOM_BYTES, ROOM_DAYS, ROOM_DAYS, ROOM_DAYS, ROOM_WORK, ROOM_DAYS, ROOM_WORDS};
 
 struct side {
     const char *name;
@@ -43,12 +46,14 @@ struct side {
 
 static size_t *length_of(struct test_case *c, enum list list)
 {
-    return (size_t *[]){&c->bytes_len, &c->days_len, &c->base_len, &c->limbs_len, &c->work_len}[list];
+    return (size_t *[]){&c->bytes_len, &c->days_len,  &c->base_len, &c->limbs_len,
+                        &c->work_len,  &c->flows_len, &c->words_len}[list];
 }
 
 static size_t length(const struct test_case *c, enum list list)
 {
-    return (const size_t[]){c->bytes_len, c->days_len, c->base_len, c->limbs_len, c->work_len}[list];
+    return (const size_t[]){c->bytes_len, c->days_len,  c->base_len, c->limbs_len,
+                            c->work_len,  c->flows_len, c->words_len}[list];
 }
 
 static size_t size(const struct test_case *c, enum list list)
@@ -58,17 +63,20 @@ static size_t size(const struct test_case *c, enum list list)
 
 static const void *content(const struct test_case *c, enum list list)
 {
-    return (const void *[]){c->bytes, c->days, c->base, c->limbs, c->work}[list];
+    return (const void *[]){c->bytes, c->days, c->base, c->limbs, c->work, c->flows, c->words}[list];
 }
 
-static int may_write(enum call call, enum list list)
+static int may_write(enum call of, enum list list)
 {
-    return (call == READ && list == DAYS) || (call == RECESSION && list == LIMBS) ||
+    enum call call = sister_of(of);
+    return ((call == READ || call == FROM_BITS) && list == DAYS) || (call == RECESSION && list == LIMBS) ||
            ((call == FILTER || call == LINE || call == BFIMAX || call == STAGGERED) && list == BASE) ||
-           (call == STAGGERED && list == WORK);
+           (call == STAGGERED && list == WORK) || (call == TO_BITS && (list == FLOWS || list == WORDS));
 }
 
 // ---- the calls of each side, with out-parameters in fixed places
+
+#define BITS lists[FLOWS], c->flows_len, lists[WORDS], c->words_len
 
 #define MAKE_CALL(prefix)                                                                                              \
     static uint32_t prefix##call(const struct test_case *c, void *const *lists, uint32_t *small, uint64_t *large)      \
@@ -91,6 +99,25 @@ static int may_write(enum call call, enum list list)
             return prefix##half_life(c->p, &small[0]);                                                                 \
         case METER:                                                                                                    \
             return prefix##meter(lists[BYTES], c->bytes_len, &small[0]);                                               \
+        case TO_BITS:                                                                                                  \
+            return prefix##to_bits(lists[DAYS], c->days_len, BITS, &small[0]);                                         \
+        case FROM_BITS:                                                                                                \
+            return prefix##from_bits(BITS, lists[DAYS], c->days_len, &small[0]);                                       \
+        case FILTER_BITS:                                                                                              \
+            return prefix##filter_bits(c->method, c->p, c->q, c->s, c->passes, BITS, lists[BASE], c->base_len);        \
+        case LINE_BITS:                                                                                                \
+            return prefix##line_bits(c->block_days, c->factor, BITS, lists[BASE], c->base_len);                        \
+        case TOTALS_BITS:                                                                                              \
+            return prefix##totals_bits(BITS, lists[BASE], c->base_len, &small[0], &large[0], &large[1], &large[2],     \
+                                       &small[1]);                                                                     \
+        case RECESSION_BITS:                                                                                           \
+            return prefix##recession_bits(c->limb_days, BITS, lists[BASE], c->base_len, lists[LIMBS],                  \
+                                          c->limbs_len, &small[0], &small[1]);                                         \
+        case BFIMAX_BITS:                                                                                              \
+            return prefix##bfimax_bits(c->last_day, c->duration, c->p, BITS, lists[BASE], c->base_len, &small[0]);     \
+        case STAGGERED_BITS:                                                                                           \
+            return prefix##staggered_bits(c->block_days, c->factor, c->choice, BITS, lists[BASE], c->base_len,         \
+                                          lists[WORK], c->work_len);                                                   \
         case STAGGERED:                                                                                                \
             return prefix##staggered(c->block_days, c->factor, c->choice, lists[DAYS], c->days_len, lists[BASE],       \
                                      c->base_len, lists[WORK], c->work_len);                                           \
@@ -237,6 +264,8 @@ static void copy(struct test_case *to, const struct test_case *from)
     memcpy(to->base, from->base, size(from, BASE));
     memcpy(to->limbs, from->limbs, size(from, LIMBS));
     memcpy(to->work, from->work, size(from, WORK));
+    memcpy(to->flows, from->flows, size(from, FLOWS));
+    memcpy(to->words, from->words, size(from, WORDS));
 }
 
 // Keeps the attempt if it still fails.
@@ -251,27 +280,55 @@ static int keep(void)
     return 1;
 }
 
+// The list that a call takes its days from.
+static enum list given(enum call call)
+{
+    return call > TO_BITS ? FLOWS : DAYS;
+}
+
+// The list that is as long as that one, unless it is refused with 14.
+static enum list beside(enum call call)
+{
+    return call == TO_BITS ? FLOWS : call == FROM_BITS ? DAYS : BASE;
+}
+
+// Cuts the bits of some days, of `count_before`; there are as many words too many or too few as there were.
+static void cut_bits(struct test_case *c, size_t at, size_t count, size_t count_before)
+{
+    size_t ones = 64 * c->words_len, dropped = words_for(count_before) - words_for(count_before - count);
+    for (size_t t = at; t < ones; t++) {
+        uint64_t one = (uint64_t)(t + count < ones && bit_of(c, t + count));
+        c->words[t / 64] = (c->words[t / 64] & ~((uint64_t)1 << t % 64)) | one << t % 64;
+    }
+    c->words_len -= dropped < c->words_len ? dropped : c->words_len;
+}
+
 static void cut(struct test_case *c, enum list list, size_t at, size_t count)
 {
-    uint8_t *from = (void *[]){c->bytes, c->days, c->base, c->limbs, c->work}[list];
-    size_t width = widths[list], behind = length(c, list) - at - count;
+    uint8_t *from = (void *[]){c->bytes, c->days, c->base, c->limbs, c->work, c->flows, c->words}[list];
+    size_t width = widths[list], before = length(c, list), behind = before - at - count;
     memmove(from + at * width, from + (at + count) * width, behind * width);
     *length_of(c, list) -= count;
-    if (list == DAYS && at + count <= c->last_day && c->last_day < c->days_len + count)
+    if (list != given(c->call))
+        return;
+    if (c->call == TO_BITS || list == FLOWS)
+        cut_bits(c, at, count, before);
+    if (at + count <= c->last_day && c->last_day < before)
         c->last_day -= (uint32_t)count; // the same day, at its new place
-    size_t of_lines = c->call == STAGGERED && list == DAYS && c->block_days <= 30 ? c->block_days * count : 0;
+    size_t of_lines = sister_of(c->call) == STAGGERED && c->block_days <= 30 ? c->block_days * count : 0;
     c->work_len -= of_lines < c->work_len ? of_lines : c->work_len; // as far from N x days as it was
 }
 
-static int cut_pieces(enum list list, int with_base)
+// Cuts pieces of a list, and of another with it (LISTS for none).
+static int cut_pieces(enum list list, enum list with)
 {
     int better = 0;
     for (size_t count = length(&smallest, list); count > 0; count = count > 8 ? count / 2 : count - 1) {
         for (size_t at = 0; at + count <= length(&smallest, list) && effort_left > 0;) {
             copy(&attempt, &smallest);
             cut(&attempt, list, at, count);
-            if (with_base)
-                cut(&attempt, BASE, at, count);
+            if (with != LISTS)
+                cut(&attempt, with, at, count);
             if (keep())
                 better = 1;
             else
@@ -281,24 +338,30 @@ static int cut_pieces(enum list list, int with_base)
     return better;
 }
 
+static uint32_t *days_of(struct test_case *c)
+{
+    return given(c->call) == FLOWS ? c->flows : c->days;
+}
+
 // For the ratios, a base value goes down with the flow of its day, as far as it can.
 static void lower_value(size_t t)
 {
-    uint64_t by = 1000 * (uint64_t)(smallest.days[t] - attempt.days[t]);
-    if (attempt.call == RECESSION && t < attempt.base_len && attempt.base[t] != NO_VALUE)
+    uint64_t by = 1000 * (uint64_t)(days_of(&smallest)[t] - days_of(&attempt)[t]);
+    if (sister_of(attempt.call) == RECESSION && t < attempt.base_len && attempt.base[t] != NO_VALUE)
         attempt.base[t] -= attempt.base[t] < by ? attempt.base[t] : by;
 }
 
 static int lower_days(void)
 {
     int better = 0;
-    for (size_t t = 0; t < smallest.days_len && smallest.call != READ && effort_left > 0; t++) {
-        const uint32_t day = smallest.days[t], lower[] = {0, 1, 10, 100, day / 10 * 10, day / 2, day - 1};
+    size_t count = smallest.call == READ ? 0 : length(&smallest, given(smallest.call));
+    for (size_t t = 0; t < count && effort_left > 0; t++) {
+        const uint32_t day = days_of(&smallest)[t], lower[] = {0, 1, 10, 100, day / 10 * 10, day / 2, day - 1};
         for (size_t i = 0; i < sizeof lower / sizeof *lower && day != MISSING; i++) {
-            if (lower[i] >= smallest.days[t])
+            if (lower[i] >= days_of(&smallest)[t])
                 continue;
             copy(&attempt, &smallest);
-            attempt.days[t] = lower[i];
+            days_of(&attempt)[t] = lower[i];
             lower_value(t);
             better |= keep();
         }
@@ -310,7 +373,7 @@ static int shorten(void)
 {
     int better = 0;
     const uint32_t duration = smallest.duration, shorter[] = {2, duration / 2, duration - 1};
-    for (size_t i = 0; i < sizeof shorter / sizeof *shorter && smallest.call == BFIMAX; i++) {
+    for (size_t i = 0; i < sizeof shorter / sizeof *shorter && sister_of(smallest.call) == BFIMAX; i++) {
         copy(&attempt, &smallest);
         attempt.duration = shorter[i];
         if (shorter[i] < smallest.duration && keep())
@@ -324,11 +387,12 @@ static void shrink(const struct test_case *c)
     copy(&smallest, c);
     int better = 1;
     while (better) {
-        better = cut_pieces(BYTES, 0) | cut_pieces(LIMBS, 0);
-        if (smallest.base_len == smallest.days_len)
-            better |= cut_pieces(DAYS, 1);
+        enum list list = given(c->call), other = beside(c->call);
+        better = cut_pieces(BYTES, LISTS) | cut_pieces(LIMBS, LISTS) | cut_pieces(WORDS, LISTS);
+        if (length(&smallest, list) == length(&smallest, other))
+            better |= cut_pieces(list, other);
         else
-            better |= cut_pieces(DAYS, 0) | cut_pieces(BASE, 0);
+            better |= cut_pieces(list, LISTS) | cut_pieces(other, LISTS);
         better |= lower_days() | shorten();
     }
 }
@@ -339,11 +403,13 @@ static void print_element(const void *list, enum list kind, size_t at)
 {
     if (kind == BYTES)
         printf("%02X", ((const uint8_t *)list)[at]);
+    else if (kind == WORDS)
+        printf("%016" PRIX64, ((const uint64_t *)list)[at]);
     else if ((kind == BASE || kind == WORK) && ((const uint64_t *)list)[at] == NO_VALUE)
         printf("none");
     else if (kind == BASE || kind == WORK)
         printf("%" PRIu64, ((const uint64_t *)list)[at]);
-    else if (kind == DAYS && ((const uint32_t *)list)[at] == MISSING)
+    else if ((kind == DAYS || kind == FLOWS) && ((const uint32_t *)list)[at] == MISSING)
         printf("missing");
     else
         printf("%" PRIu32, ((const uint32_t *)list)[at]);
@@ -359,8 +425,9 @@ static void print_list(const struct test_case *c, enum list list, const void *el
     puts(length(c, list) > 200 ? " ..." : "");
 }
 
-static void print_outs(enum call call, const struct outs *o)
+static void print_outs(enum call of, const struct outs *o)
 {
+    enum call call = sister_of(of);
     if (call == READ)
         printf(" first_day %" PRIu32 ", day_count %" PRIu32, o->small[0], o->small[1]);
     if (call == STEP || call == STEPS)
@@ -375,6 +442,8 @@ static void print_outs(enum call call, const struct outs *o)
         printf(" days %" PRIu32, o->small[0]);
     if (call == METER)
         printf(" day %" PRIu32, o->small[0]);
+    if (call == TO_BITS || call == FROM_BITS)
+        printf(" present %" PRIu32, o->small[0]);
     if (call == RECESSION)
         printf(" ratio_count %" PRIu32 ", ratio %" PRIu32, o->small[0], o->small[1]);
     putchar('\n');
@@ -382,21 +451,22 @@ static void print_outs(enum call call, const struct outs *o)
 
 static void print_arguments(const struct test_case *c)
 {
-    if (c->call == FILTER || c->call == STEP || c->call == STEPS)
+    enum call call = sister_of(c->call);
+    if (call == FILTER || call == STEP || call == STEPS)
         printf("  method %" PRIu32 ", p %" PRIu32 ", q %" PRIu32 ", s %" PRId32 "\n", c->method, c->p, c->q, c->s);
-    if (c->call == FILTER)
+    if (call == FILTER)
         printf("  passes %" PRIu32 "\n", c->passes);
-    if (c->call == STEP)
+    if (call == STEP)
         printf("  day %" PRIu32 "\n", c->day);
-    if (c->call == HALF_LIFE)
+    if (call == HALF_LIFE)
         printf("  p %" PRIu32 "\n", c->p);
-    if (c->call == STAGGERED)
+    if (call == STAGGERED)
         printf("  choice %" PRIu32 "\n", c->choice);
-    if (c->call == LINE || c->call == STAGGERED)
+    if (call == LINE || call == STAGGERED)
         printf("  block_days %" PRIu32 ", factor %" PRIu32 "\n", c->block_days, c->factor);
-    if (c->call == RECESSION)
+    if (call == RECESSION)
         printf("  limb_days %" PRIu32 "\n", c->limb_days);
-    if (c->call == BFIMAX)
+    if (call == BFIMAX)
         printf("  last_day %" PRIu32 ", duration %" PRIu32 ", p %" PRIu32 "\n", c->last_day, c->duration, c->p);
     for (enum list list = 0; list < LISTS; list++)
         if (length(c, list) > 0)

@@ -11,10 +11,20 @@
 enum { MOST_FLOW = 10000000, MOST_DAYS = 36525, MOST_FIRST_DAY = 99999, MOST_DURATION = 3650 };
 
 // STEPS is no call of its own: daily steps from a fresh state over a day list, held to pass 1 of the filter.
-enum call { READ, FILTER, STEP, STEPS, LINE, TOTALS, RECESSION, BFIMAX, STAGGERED, HALF_LIFE, METER, CALLS };
+enum call {
+    READ, FILTER, STEP, STEPS, LINE, TOTALS, RECESSION, BFIMAX, STAGGERED, HALF_LIFE, METER, TO_BITS, FROM_BITS,
+    FILTER_BITS, LINE_BITS, TOTALS_BITS, RECESSION_BITS, BFIMAX_BITS, STAGGERED_BITS, CALLS
+};
+
+// The call over days that goes with a call over presence bits; any other call itself.
+static inline enum call sister_of(enum call call)
+{
+    static const enum call sisters[] = {FILTER, LINE, TOTALS, RECESSION, BFIMAX, STAGGERED};
+    return call < FILTER_BITS ? call : sisters[call - FILTER_BITS];
+}
 
 // The room that a case has for each list, in elements.
-enum { ROOM_BYTES = 6 * MOST_DAYS, ROOM_DAYS = MOST_DAYS + 100, ROOM_WORK = 5 * MOST_DAYS + 100 };
+enum { ROOM_BYTES = 6 * MOST_DAYS, ROOM_DAYS = MOST_DAYS + 100, ROOM_WORK = 5 * MOST_DAYS + 100, ROOM_WORDS = 1000 };
 
 // The out-parameters of any call. Those that a call does not have are compared as well.
 struct outs {
@@ -22,7 +32,8 @@ struct outs {
     uint64_t large[4];
 };
 
-// The arguments of one call. Lists and out-parameters that it writes have their content before the call here.
+// The arguments of one call. Lists and out-parameters that it writes have their content before the call here. A call
+// over presence bits has those of its sister, with flows and words in place of the days.
 struct test_case {
     enum call call;
     uint32_t method, p, q, passes; // FILTER, STEP and STEPS; p also BFIMAX and HALF_LIFE
@@ -33,13 +44,25 @@ struct test_case {
     uint32_t limb_days;            // RECESSION
     uint32_t last_day, duration;   // BFIMAX
     struct outs outs;              // STEP: has_yesterday small[0], flow small[1], base large[0]
-    size_t bytes_len, days_len, base_len, limbs_len, work_len;
+    size_t bytes_len, days_len, base_len, limbs_len, work_len, flows_len, words_len;
     uint8_t bytes[ROOM_BYTES];
     uint32_t days[ROOM_DAYS];
     uint64_t base[ROOM_DAYS];
     uint32_t limbs[ROOM_DAYS];
     uint64_t work[ROOM_WORK];
+    uint32_t flows[ROOM_DAYS];
+    uint64_t words[ROOM_WORDS];
 };
+
+static inline size_t words_for(size_t days)
+{
+    return (days + 63) / 64;
+}
+
+static inline int bit_of(const struct test_case *c, size_t t)
+{
+    return c->words[t / 64] >> t % 64 & 1;
+}
 
 // The counted limbs of a case of RECESSION, and what else is seen on the way.
 struct limb_view {

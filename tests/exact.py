@@ -8,9 +8,9 @@ and the setting are worked out anew with fractions: document 01's rules, near le
 figure lies outside its limit, a day has a value in one run only, or a refusal is not the one that the rules give.
 BFImax has runs of its own: the limit of each of its values counts the days up to the next one behind it on which both
 runs have the whole flow. A meter's readings, with every upper half of a float's bits, have to be the nearest litre to
-the fraction that the float is. It prints the largest share of each limit that was reached, and keeps that in
-target/tests/exact.txt, from which the page of guarantees takes its figures. Document 01's worked rivers are held to its
-figures first.
+the fraction that the float is. Each call over presence bits has to give what the call over the days gives. It prints
+the largest share of each limit that was reached, and keeps that in target/tests/exact.txt, from which the page of
+guarantees takes its figures. Document 01's worked rivers are held to its figures first.
 """
 import random
 import struct
@@ -19,9 +19,10 @@ from fractions import Fraction
 
 sys.dont_write_bytecode = True
 import rules
-from interface import Engine, Refused, products
+from interface import Bits, Engine, Refused, products
 
 HALF = Fraction(1, 2)
+MARK = 2**32 - 1
 LINE = "line"  # stands for the block-minima line where a method is asked for
 METHODS = (1, 2, 3, 4, 5, 6, 7)
 LEAST_RUNS = 1500
@@ -79,6 +80,10 @@ def any_setting(rng):
     method = rng.choice((*METHODS, LINE))
     if method == LINE:
         return LINE, rng.randrange(1, 10000), 0, 0, rng.randrange(1, 31)
+    return any_filter(rng, method)
+
+
+def any_filter(rng, method):
     p = rng.randrange(3334 if method == 2 else 1, 10000)
     q = rng.randrange(1, 10000 if method == 5 else 10001) if method in (4, 5, 7) else 0
     s = rng.randrange(-9999, 10000) if method == 7 else 0
@@ -294,6 +299,52 @@ def measure_meter(engine):
     return count
 
 
+# "Presence bits"
+def bits_cases():
+    """Rivers with gaps, and one of 36,525 days."""
+    rng = random.Random(64)
+    yield from (river for _, river in rivers(rng))
+    for count in (0, 1, 2, 63, 64, 65, 127, 128, 129, 640, 1000):
+        for gap in (0, 0.1, 0.5, 1):
+            yield storms(rng, count, gap)
+    for _ in range(300):
+        limit, gap = rng.choice((4, 100, 10_000_001)), rng.choice((0, 0.02, 0.3))
+        yield [None if rng.random() < gap else rng.randrange(limit) for _ in range(rng.randrange(200))]
+    yield storms(rng, 36525, 0.03)
+
+
+def calls_over(rng, days):
+    """The six calls, as functions of an engine and of the days in either form."""
+    setting, block_days, choice = any_filter(rng, rng.choice(METHODS)), rng.randrange(1, 6), rng.randrange(1, 4)
+    last = rng.randrange(max(1, len(days)))
+    limb_days, duration = rng.randrange(2, 7), rng.choice((2, last + 1, 7))
+    base = [None if b is None or rng.random() < 0.1 else b if rng.random() < 0.8 else b // 2
+            for b in rules.whole_flows(days)]
+    if base and rng.random() < 0.2:
+        base[last] = 10**10 + 1
+    return (lambda engine, form: engine.filter(*setting, form),
+            lambda engine, form: engine.line(block_days, 9000, form),
+            lambda engine, form: engine.staggered(block_days, 9000, choice, form),
+            lambda engine, form: engine.totals(form, base),
+            lambda engine, form: engine.recession(limb_days, form, base),
+            lambda engine, form: engine.bfimax(last, duration, 9700, form))
+
+
+def measure_bits(engine):
+    """There and back, and each of the six calls over both forms; how many calls were made over bits, and how many of
+    them accepted."""
+    rng, made, accepted = random.Random(28), 0, 0
+    for days in bits_cases():
+        form, present = engine.to_bits(days)
+        assert (form.flows, form.words, present) == rules.to_bits(days), f"bits {form.words} of {days}"
+        assert engine.from_bits(form) == (days, present) == rules.from_bits(form.flows, form.words), f"back to {days}"
+        for call in calls_over(rng, days):
+            wanted, given = refused(call, engine, days), refused(call, engine, form)
+            assert given == wanted, f"number and result {given} over bits, {wanted} over the days {days}"
+            made, accepted = made + 1, accepted + (given[0] is None)
+    return made, accepted
+
+
 # document 01, "Rivers worked through": rule 8.1
 def worked_rivers(engine):
     def ratios(limb_days, days):
@@ -307,6 +358,14 @@ def worked_rivers(engine):
     def of_bits(*bits):
         """The refusals of floats by their bits, in both units."""
         return {refused(engine.meter, bytes([kind]) + n.to_bytes(4, "little"))[0] for n in bits for kind in (1, 2)}
+
+    def numbers(call, *forms):
+        """What a call answers to each."""
+        return [refused(call, form)[0] for form in forms]
+
+    def bits_of(days):
+        form, present = engine.to_bits(days)
+        return form.flows, form.words, present
 
     line = [None, 8000, 8333, 8667, 9000, None]
     flows = [10, 8, 10, 20, 9, 30]
@@ -396,6 +455,35 @@ def worked_rivers(engine):
         ("BFImax, a half above an odd number", engine.bfimax(1, 2, 6400, [5, 3]), (9610, [4688, 3000])),
         ("BFImax, the answer at a half", [engine.bfimax(1, 2, 5000, flows)[0] for flows in ([31, 1], [29, 3])],
          [938, 2812]),
+        ("bits, no day", bits_of([]), ([], [], 0)),
+        ("bits, one day", [bits_of([flow]) for flow in (7, 0, None)], [([7], [1], 1), ([0], [1], 1), ([0], [0], 0)]),
+        ("bits, the lowest first", bits_of([None, 5, 6, None]), ([0, 5, 6, 0], [6], 2)),
+        ("bits, 63, 64, 65 and 128 days", [bits_of([3] * n)[1:] for n in (63, 64, 65, 128)],
+         [([2**63 - 1], 63), ([2**64 - 1], 64), ([2**64 - 1, 1], 65), ([2**64 - 1] * 2, 128)]),
+        ("bits, all missing", bits_of([None] * 65), ([0] * 65, [0, 0], 0)),
+        ("bits, the last of 65 missing", bits_of([3] * 64 + [None])[1:], ([2**64 - 1, 0], 64)),
+        ("bits, a word more and one less", [refused(engine.to_bits, [3] * 65, n)[0] for n in (1, 2, 3)],
+         [28, None, 28]),
+        ("bits, 28 and then 10", [refused(engine.to_bits, [10_000_001], n)[0] for n in (0, 1, 2)], [28, 10, 28]),
+        ("from bits", engine.from_bits(Bits([0, 5, 6, 0], [6])), ([None, 5, 6, None], 2)),
+        ("from bits, no day", engine.from_bits(Bits([], [])), ([], 0)),
+        ("from bits, a word more and one less",
+         numbers(engine.from_bits, *(Bits([3] * 64, [2**64 - 1, 0, 0][:n]) for n in (1, 2, 3)), Bits([3], [])),
+         [None, 28, 28, 28]),
+        ("from bits, a one past the end", numbers(engine.from_bits, Bits([3], [3]), Bits([3], [1 + 2**63])), [28, 28]),
+        ("from bits, numbers under a zero bit",
+         numbers(engine.from_bits, *(Bits([flow, 3], [2]) for flow in (0, 1, MARK))), [None, 28, 28]),
+        ("from bits, numbers under a one bit",
+         numbers(engine.from_bits, *(Bits([flow], [1]) for flow in (10_000_000, 10_000_001, MARK))), [None, 10, 10]),
+        ("from bits, 28 before 10", numbers(engine.from_bits, Bits([MARK, 1], [1])), [28]),
+        ("over bits, the filter", engine.filter(1, 9250, 0, 0, 1, Bits([100, 200, 0, 50], [11])),
+         engine.filter(1, 9250, 0, 0, 1, [100, 200, None, 50])),
+        ("over bits, the line", engine.line(1, 9000, Bits(flows, [63])), line),
+        ("over bits, 14, 28 and 10", [refused(engine.totals, Bits([MARK, flow], [1]), base)[0]
+                                    for flow, base in ((1, [None]), (1, [None] * 2), (0, [None] * 2))], [14, 28, 10]),
+        ("over bits, before 28", [refused(call, *words, Bits([1], [1, 0]))[0] for call, *words in (
+            (engine.filter, 1, 9250, 0, 0, 4), (engine.line, 31, 9000), (engine.staggered, 2, 9000, 4),
+            (engine.bfimax, 0, 2, 0), (engine.bfimax, 0, 1, 9700))], [13, 16, 16, 12, 23]),
         ("zero days", engine.read(bytes.fromhex("01 00000000 09 00000000")), (0, [])),
         ("no bytes", refused(engine.read, b"")[0], 1),
     ]
@@ -432,11 +520,17 @@ def main():
         readings = measure_meter(engine)
     except AssertionError as wrong:
         sys.exit(f"meter: {wrong}")
+    try:
+        over_bits, accepted = measure_bits(engine)
+    except AssertionError as wrong:
+        sys.exit(f"presence bits: {str(wrong)[:2000]}")
     lines = [f"exact: {runs} runs through the C interface lie within their limits; the largest share of each:"]
     lines += [f"  {figure}: {float(share):.3f}" for figure, share in sorted(shares.reached.items())]
     lines.append(f"exact: {bfimax_runs} further runs, of BFImax, and {staggered_runs}, of staggered lines, lie within "
                  "theirs")
     lines.append(f"exact: {readings:,} readings of a meter are the nearest litre to a fraction, or refused")
+    lines.append(f"exact: {over_bits:,} calls over presence bits, {accepted:,} of them accepted, give what those over "
+                 "the days give")
     (products() / "exact.txt").write_text("\n".join(lines) + "\n")
     print("\n".join(lines))
 

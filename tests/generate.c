@@ -1,7 +1,8 @@
 // The generator of the differential runs. It aims at the edges of document 01: limits and their neighbours, marks,
 // ties, quotients at a half, falls through gaps, dry spells, limbs of chosen lengths, falls that are not at base
 // everywhere, recessions as BFImax sees them, full lists, lists of different lengths, records damaged by cutting,
-// flipping and inserting, and floats of every exponent, at halves between two litres, and beside the limits.
+// flipping and inserting, floats of every exponent, at halves between two litres, and beside the limits, and lists that
+// end round a word's last bit, with damaged words.
 #include <string.h>
 
 #include "differential.h"
@@ -47,9 +48,13 @@ static int spoil(void)
 
 // ---- day lists
 
+static int by_words; // whether lengths round a multiple of 64 are wanted
+
 static size_t day_list_length(void)
 {
-    if (one_in(200))
+    if (by_words && one_in(2))
+        return AMONG(0, 1, 63, 64, 65, 127, 128, 129, 192);
+    if (one_in(by_words ? 40 : 200))
         return one_in(3) ? between(10000, MOST_DAYS + 20) : AMONG(MOST_DAYS - 1, MOST_DAYS, MOST_DAYS, MOST_DAYS + 1);
     if (one_in(12))
         return below(one_in(10) ? 4000 : 400);
@@ -757,23 +762,119 @@ static void make_meter(struct test_case *c)
         insert(c, c->bytes_len, between(1, one_in(2) ? 1 : 5));
 }
 
+// ---- presence bits
+
+static void fill_words(struct test_case *c, size_t count)
+{
+    c->words_len = count < ROOM_WORDS ? count : ROOM_WORDS;
+    for (size_t i = 0; i < c->words_len; i++)
+        c->words[i] = one_in(2) ? 0 : draw();
+}
+
+// Another number of words than the lists want: one more or less, none, or a word for each day.
+static size_t other_word_count(size_t days)
+{
+    size_t right = words_for(days);
+    if (one_in(2))
+        return one_in(2) || right == 0 ? right + 1 : right - 1;
+    return one_in(3) ? 0 : one_in(2) ? days : between(1, 9);
+}
+
+// Puts the case's days into flows and words. The words that there are too many are any.
+static void turn_into_bits(struct test_case *c)
+{
+    fill_words(c, spoil() ? other_word_count(c->days_len) : words_for(c->days_len));
+    c->flows_len = c->days_len;
+    for (size_t t = 0; t < c->days_len; t++)
+        c->flows[t] = c->days[t] == MISSING ? 0 : c->days[t];
+    for (size_t t = 0; t < 64 * c->words_len && t < 64 * words_for(c->days_len); t++) {
+        uint64_t bit = (uint64_t)1 << t % 64;
+        if (t < c->days_len && c->days[t] != MISSING)
+            c->words[t / 64] |= bit;
+        else
+            c->words[t / 64] &= ~bit;
+    }
+}
+
+// A flow that no call takes, on a day with this bit, if there is one: any under a zero, above the limit under a one.
+static void spoil_flow(struct test_case *c, int bit)
+{
+    size_t count = c->flows_len < 64 * c->words_len ? c->flows_len : 64 * c->words_len;
+    if (count == 0)
+        return;
+    size_t t = one_in(4) ? count - 1 : below((uint32_t)count);
+    for (size_t left = count; left > 0 && bit_of(c, t) != bit; left--)
+        t = (t + 1) % count;
+    c->flows[t] = bit ? AMONG(MISSING, MISSING, MOST_FLOW + 1, MISSING - 1, 0x80000000)
+                      : AMONG(1, 2, 1000, MOST_FLOW, MOST_FLOW + 1, MISSING, 0x80000000);
+}
+
+static void spoil_bits(struct test_case *c)
+{
+    uint32_t end = (uint32_t)c->flows_len, bits = 64 * (uint32_t)c->words_len;
+    if (bits > end && spoil()) { // a one past the end
+        uint32_t t = one_in(2) ? end : one_in(2) ? bits - 1 : between(end, bits - 1);
+        c->words[t / 64] |= (uint64_t)1 << t % 64;
+    }
+    if (spoil())
+        spoil_flow(c, 0);
+    if (spoil())
+        spoil_flow(c, 1);
+    if (spoil() && c->flows_len > 0 && c->words_len > 0) // a present day's bit goes, and its flow stays
+        c->words[below((uint32_t)c->words_len)] &= ~((uint64_t)1 << below(64));
+}
+
+static void make_to_bits(struct test_case *c)
+{
+    fill_days(c);
+    fill_words(c, spoil() ? other_word_count(c->days_len) : words_for(c->days_len));
+    c->flows_len = spoil() ? other_length(c->days_len) : c->days_len;
+    for (size_t t = 0; t < c->flows_len; t++)
+        c->flows[t] = (uint32_t)draw();
+}
+
+static void make_from_bits(struct test_case *c)
+{
+    fill_days(c);
+    turn_into_bits(c);
+    spoil_bits(c);
+    c->days_len = spoil() ? other_length(c->flows_len) : c->flows_len;
+    for (size_t t = 0; t < c->days_len; t++)
+        c->days[t] = (uint32_t)draw();
+}
+
+// Any call over days, with these in the other form.
+static void make_over_bits(struct test_case *c)
+{
+    static void (*const make[])(struct test_case *) = {make_filter,    make_line,   make_totals,
+                                                       make_recession, make_bfimax, make_staggered};
+    make[c->call - FILTER_BITS](c);
+    turn_into_bits(c);
+    spoil_bits(c);
+    c->days_len = 0;
+}
+
 void generate(struct test_case *c, uint64_t seed, uint64_t number)
 {
     static void (*const make[CALLS])(struct test_case *) = {
         [READ] = make_read,     [FILTER] = make_filter, [STEP] = make_step,           [STEPS] = make_steps,
         [LINE] = make_line,     [TOTALS] = make_totals, [RECESSION] = make_recession, [BFIMAX] = make_bfimax,
         [STAGGERED] = make_staggered, [HALF_LIFE] = make_half_life, [METER] = make_meter,
+        [TO_BITS] = make_to_bits, [FROM_BITS] = make_from_bits, [FILTER_BITS] = make_over_bits,
+        [LINE_BITS] = make_over_bits, [TOTALS_BITS] = make_over_bits, [RECESSION_BITS] = make_over_bits,
+        [BFIMAX_BITS] = make_over_bits, [STAGGERED_BITS] = make_over_bits,
     };
     state = seed << 40 ^ number;
     state = draw();
-    c->bytes_len = c->days_len = c->base_len = c->limbs_len = c->work_len = 0;
+    c->bytes_len = c->days_len = c->base_len = c->limbs_len = c->work_len = c->flows_len = c->words_len = 0;
     for (size_t i = 0; i < 4; i++) {
         c->outs.small[i] = (uint32_t)draw();
         c->outs.large[i] = draw();
     }
     rough = one_in(5);
     uint32_t turn = below(100);
-    c->call = turn < 22   ? READ
+    c->call = turn < 16   ? READ
+              : turn < 22 ? (enum call)(TO_BITS + below(CALLS - TO_BITS))
               : turn < 24 ? METER
               : turn < 40 ? FILTER
               : turn < 48 ? STEP
@@ -784,5 +885,6 @@ void generate(struct test_case *c, uint64_t seed, uint64_t number)
               : turn < 91 ? BFIMAX
               : turn < 99 ? STAGGERED
                           : HALF_LIFE;
+    by_words = c->call >= TO_BITS;
     make[c->call](c);
 }

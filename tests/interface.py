@@ -49,8 +49,20 @@ class Refused(Exception):
         self.number = number
 
 
+class Bits:
+    """Flows and the words of their presence."""
+
+    def __init__(self, flows, words):
+        self.flows, self.words = flows, words
+
+    def __len__(self):
+        return len(self.flows)
+
+
 class Engine:
-    """The calls on plain Python values: None is a missing day and no value. A refusal is raised."""
+    """The calls on plain Python values: None is a missing day and no value. A refusal is raised.
+
+    Days are a list or Bits; with Bits it is the call over presence bits."""
 
     def __init__(self, prefix="baseflow", objects=None):
         shared = products() / f"lib{prefix}.so"
@@ -65,6 +77,14 @@ class Engine:
         if number:
             raise Refused(number)
 
+    def call_over(self, days, name, before, *behind):
+        """A call with days among its arguments, in either form."""
+        if isinstance(days, Bits):
+            words = listed(ctypes.c_uint64, days.words), size(days.words)
+            self.call(f"{name}_bits", *before, listed(ctypes.c_uint32, days.flows), size(days), *words, *behind)
+        else:
+            self.call(name, *before, day_list(days), size(days), *behind)
+
     def read(self, data, room=MOST_DAYS):
         days, first, count = (ctypes.c_uint32 * max(1, room))(), ctypes.c_uint32(), ctypes.c_uint32()
         self.call("read", listed(ctypes.c_uint8, data), size(data), days, ctypes.c_size_t(room), ctypes.byref(first),
@@ -73,22 +93,20 @@ class Engine:
 
     def filter(self, method, p, q, s, passes, days):
         base = listed(ctypes.c_uint64, [0] * len(days))
-        self.call("filter", *setting(method, p, q, s), ctypes.c_uint32(passes), day_list(days), size(days), base,
-                  size(days))
+        self.call_over(days, "filter", (*setting(method, p, q, s), ctypes.c_uint32(passes)), base, size(days))
         return base_values(base, days)
 
     def line(self, block_days, factor, days):
         base = listed(ctypes.c_uint64, [0] * len(days))
-        self.call("line", ctypes.c_uint32(block_days), ctypes.c_uint32(factor), day_list(days), size(days), base,
-                  size(days))
+        self.call_over(days, "line", map(ctypes.c_uint32, (block_days, factor)), base, size(days))
         return base_values(base, days)
 
     def staggered(self, block_days, factor, choice, days):
         """The chosen base list, and the lines of all shifts."""
         base = listed(ctypes.c_uint64, [0] * len(days))
         work = listed(ctypes.c_uint64, [0] * (block_days * len(days)))
-        self.call("staggered", *map(ctypes.c_uint32, (block_days, factor, choice)), day_list(days), size(days), base,
-                  size(days), work, ctypes.c_size_t(block_days * len(days)))
+        self.call_over(days, "staggered", map(ctypes.c_uint32, (block_days, factor, choice)), base, size(days), work,
+                       ctypes.c_size_t(block_days * len(days)))
         lines = [work[o * len(days):(o + 1) * len(days)] for o in range(block_days)]
         return base_values(base, days), [base_values(line, days) for line in lines]
 
@@ -106,16 +124,16 @@ class Engine:
         """Days with a value, flow total, base total, quick total and index."""
         m, index = ctypes.c_uint32(), ctypes.c_uint32()
         flow, slow, quick = ctypes.c_uint64(), ctypes.c_uint64(), ctypes.c_uint64()
-        self.call("totals", day_list(days), size(days), base_list(base), size(base),
-                  *map(ctypes.byref, (m, flow, slow, quick, index)))
+        self.call_over(days, "totals", (), base_list(base), size(base),
+                       *map(ctypes.byref, (m, flow, slow, quick, index)))
         return m.value, flow.value, slow.value, quick.value, index.value
 
     def recession(self, limb_days, days, base):
         """The number of ratios, the middle one, and the counted limbs as they are listed."""
         limbs = listed(ctypes.c_uint32, [0] * len(days))
         count, ratio = ctypes.c_uint32(), ctypes.c_uint32()
-        self.call("recession", ctypes.c_uint32(limb_days), day_list(days), size(days), base_list(base), size(base),
-                  limbs, size(days), ctypes.byref(count), ctypes.byref(ratio))
+        self.call_over(days, "recession", [ctypes.c_uint32(limb_days)], base_list(base), size(base), limbs, size(days),
+                       ctypes.byref(count), ctypes.byref(ratio))
         return count.value, ratio.value, [pair for pair in zip(limbs[::2], limbs[1::2]) if pair != (0, 0)]
 
     def half_life(self, p):
@@ -132,9 +150,24 @@ class Engine:
     def bfimax(self, last_day, duration, p, days):
         """BFImax and the base list."""
         base, answer = listed(ctypes.c_uint64, [0] * len(days)), ctypes.c_uint32()
-        self.call("bfimax", *map(ctypes.c_uint32, (last_day, duration, p)), day_list(days), size(days), base,
-                  size(days), ctypes.byref(answer))
+        self.call_over(days, "bfimax", map(ctypes.c_uint32, (last_day, duration, p)), base, size(days),
+                       ctypes.byref(answer))
         return answer.value, base_values(base, days)
+
+    def to_bits(self, days, words_len=None):
+        """The flows and words of days, and how many are present; with a word for each 64 days, or as many as wanted."""
+        flows, present = listed(ctypes.c_uint32, [7] * len(days)), ctypes.c_uint32()
+        words_len = -(-len(days) // 64) if words_len is None else words_len
+        words = listed(ctypes.c_uint64, [7] * words_len)
+        self.call("to_bits", day_list(days), size(days), flows, size(days), words, ctypes.c_size_t(words_len),
+                  ctypes.byref(present))
+        return Bits(flows[:len(days)], words[:words_len]), present.value
+
+    def from_bits(self, bits):
+        """The days of flows and words, and how many are present."""
+        days, present = listed(ctypes.c_uint32, [7] * len(bits)), ctypes.c_uint32()
+        self.call_over(bits, "from", (), days, size(bits), ctypes.byref(present))
+        return [None if day == MISSING else day for day in days[:len(bits)]], present.value
 
 
 def setting(method, p, q, s):

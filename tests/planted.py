@@ -44,6 +44,17 @@ FLOAT_TEST = "if (bits >= INFINITE && bits != MINUS_ZERO) return 26;"
 READING_NEAR = "(2 * m + ((uint64_t)1 << k) - 1 + (m >> k & 1)) >> (k + 1)"
 READING_SCALED = "near_shifted(units[bytes[0]] * reading.m, 150 - reading.exponent)"
 READING_TEST = "if (litres > MOST_FLOW) return 27;"
+EIGHT = "eight |= (uint64_t)(days[j + k] != MISSING) << k;"
+TO_WORDS_TEST = "if (words_len != words_for(days_len)) return 28;"
+FROM_WORDS_TEST = "if (words_len != words_for(flows_len)) return 28;"
+END_TEST = "if (flows_len % 64 != 0 && words[words_len - 1] >> flows_len % 64 != 0) return 28;"
+ABSENT_TEST = "if (absent != 0) return 28;"
+DAYS_LEN_TEST = "if (days_len != flows_len) return 14;"
+BITS_TEST = "uint32_t refusal = test_bits(flows, flows_len, words, words_len);"
+SET_MISSING = "days[64 * i + (size_t)__builtin_ctzll(zeros)] = MISSING;"
+FLOW_OF_DAY = "flows[t] = days[t] == MISSING ? 0 : days[t];"
+FOUND_DAYS = "= find_days(flows, flows_len, words, words_len, base_len, days);"
+WORK_BITS_TEST = "if (flows_len <= MOST_DAYS && base_len == flows_len && work_len != block_days * flows_len) return 25;"
 BACKWARDS = "value = smaller(1000 * (uint64_t)days[t], near(10000 * value, p));"
 
 
@@ -247,6 +258,40 @@ FAULTS = (
      "if (bytes_len < reading_len) return 1; if (reading_len == 5 && four_bytes(bytes + 1) >= INFINITE && "
      "four_bytes(bytes + 1) != MINUS_ZERO) return 26; if (bytes_len > reading_len) return 8;"),
     ("a day is written before 27", READING_TEST, f"*day = (uint32_t)litres; {READING_TEST}"),
+    ("the highest bit first", EIGHT, "word |= (uint64_t)(days[j + k] != MISSING) << (63 - j - k);"),
+    ("the highest bit first, from bits", SET_MISSING, "days[64 * i + 63 - (size_t)__builtin_ctzll(zeros)] = MISSING;"),
+    ("a dry day is absent", EIGHT, "eight |= (uint64_t)(days[j + k] != MISSING && days[j + k] != 0) << k;"),
+    ("bits past the last day are ones", "uint64_t word = 0; for (size_t j = 0; j < count; j += 8)",
+     "uint64_t word = count < 64 ? ~(uint64_t)0 << count : 0; for (size_t j = 0; j < count; j += 8)"),
+    ("the last word is left out of the count", "ones += ones_of(words[full]);", ""),
+    ("an absent day keeps its mark", FLOW_OF_DAY, "flows[t] = days[t];"),
+    ("a word per day", "return days_len / 64 + (days_len % 64 != 0);", "return days_len;"),
+    ("a word more behind a full one", "return days_len / 64 + (days_len % 64 != 0);", "return days_len / 64 + 1;"),
+    ("a word too many is taken", TO_WORDS_TEST, "if (words_len < words_for(days_len)) return 28;"),
+    ("a word too many is taken, from bits", FROM_WORDS_TEST, "if (words_len < words_for(flows_len)) return 28;"),
+    ("28 after 10, to bits", f"{TO_WORDS_TEST} {DAYS_TEST}", f"{DAYS_TEST} {TO_WORDS_TEST}"),
+    ("28 before 14, from bits", f"{DAYS_LEN_TEST} {BITS_TEST}",
+     f"{BITS_TEST} if (refusal == 28) return 28; {DAYS_LEN_TEST}"),
+    ("28 after 10, from bits", ABSENT_TEST,
+     "if (absent != 0) { for (size_t t = 0; t < flows_len; t++) "
+     "if (flows[t] > MOST_FLOW && (words[t / 64] >> t % 64 & 1) != 0) return 10; return 28; }"),
+    ("the last partial word is not tested", END_TEST, ""),
+    ("only the first bit past the end is tested", END_TEST,
+     "if (flows_len % 64 != 0 && (words[words_len - 1] >> flows_len % 64 & 1) != 0) return 28;"),
+    ("ones past the end are counted, and taken", f"{END_TEST} uint32_t absent = 0;",
+     "uint32_t absent = 0; if (flows_len % 64 != 0 && ones_of(words[words_len - 1]) > flows_len % 64) return 28;"),
+    ("a flow under a zero bit is passed over", ABSENT_TEST, ""),
+    ("the mark under a one bit is a missing day", "good &= flows[t] <= MOST_FLOW;", "good &= is_day(flows[t]);"),
+    ("from bits an absent day is dry", SET_MISSING, ";"),
+    ("days are written before 28", BITS_TEST, f"if (days_len > 0) days[0] = flows[0]; {BITS_TEST}"),
+    ("the present days are written before 28", BITS_TEST, f"*present = 0; {BITS_TEST}"),
+    ("28 before 13", "if (!within(passes, 1, method == 1 ? 3 : 1)) return 13; refusal = find_days",
+     f"refusal {FOUND_DAYS} if (refusal == 28) return 28; if (!within(passes, 1, method == 1 ? 3 : 1)) return 13; "
+     "refusal = find_days"),
+    ("28 before 25", WORK_BITS_TEST,
+     f"uint32_t early {FOUND_DAYS} if (early == 28) return 28; {WORK_BITS_TEST}"),
+    ("25 behind 10 over bits", WORK_BITS_TEST,
+     f"uint32_t early {FOUND_DAYS} if (early == 10) return 10; {WORK_BITS_TEST}"),
     ("the D days end before the last day", SPELL_TEST, f"last_day -= 1; {SPELL_TEST}"),
     ("the last day's place counts from 1", "if (!within(p, 1, 9999)) return 12; if (!within(duration",
      "last_day -= last_day > 0; if (!within(p, 1, 9999)) return 12; if (!within(duration"),

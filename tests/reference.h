@@ -28,4 +28,24 @@ uint32_t NAME(meter)(const uint8_t *bytes, size_t bytes_len, uint32_t *day);
 uint32_t NAME(bfimax)(uint32_t last_day, uint32_t duration, uint32_t p, const uint32_t *days, size_t days_len,
                       uint64_t *base, size_t base_len, uint32_t *bfimax);
 
+uint32_t NAME(to_bits)(const uint32_t *days, size_t days_len, uint32_t *flows, size_t flows_len, uint64_t *words,
+                       size_t words_len, uint32_t *present);
+uint32_t NAME(from_bits)(const uint32_t *flows, size_t flows_len, const uint64_t *words, size_t words_len,
+                         uint32_t *days, size_t days_len, uint32_t *present);
+uint32_t NAME(filter_bits)(uint32_t method, uint32_t p, uint32_t q, int32_t s, uint32_t passes, const uint32_t *flows,
+                           size_t flows_len, const uint64_t *words, size_t words_len, uint64_t *base, size_t base_len);
+uint32_t NAME(line_bits)(uint32_t block_days, uint32_t factor, const uint32_t *flows, size_t flows_len,
+                         const uint64_t *words, size_t words_len, uint64_t *base, size_t base_len);
+uint32_t NAME(staggered_bits)(uint32_t block_days, uint32_t factor, uint32_t choice, const uint32_t *flows,
+                              size_t flows_len, const uint64_t *words, size_t words_len, uint64_t *base,
+                              size_t base_len, uint64_t *work, size_t work_len);
+uint32_t NAME(totals_bits)(const uint32_t *flows, size_t flows_len, const uint64_t *words, size_t words_len,
+                           const uint64_t *base, size_t base_len, uint32_t *base_days, uint64_t *flow_total,
+                           uint64_t *base_total, uint64_t *quick_total, uint32_t *index);
+uint32_t NAME(recession_bits)(uint32_t limb_days, const uint32_t *flows, size_t flows_len, const uint64_t *words,
+                              size_t words_len, const uint64_t *base, size_t base_len, uint32_t *limbs,
+                              size_t limbs_len, uint32_t *ratio_count, uint32_t *ratio);
+uint32_t NAME(bfimax_bits)(uint32_t last_day, uint32_t duration, uint32_t p, const uint32_t *flows, size_t flows_len,
+                           const uint64_t *words, size_t words_len, uint64_t *base, size_t base_len, uint32_t *bfimax);
+
 #endif

@@ -103,6 +103,31 @@ def ratios_call(limb_days, days, base, limbs):
     return len(found), found[(len(found) + 1) // 2 - 1]
 
 
+def over_bits(call, flows, words):
+    """What a call over a day list, with its other arguments bound, answers over flows and words."""
+    def over_days(days):
+        return call([MISSING if d is None else min(d, MISSING - 1) for d in days])
+
+    return rules.over_bits(over_days, flows, words)
+
+
+def to_bits_call(days, flows, words):
+    cause = rules.bad_to_bits(views(days), len(flows), len(words))
+    if cause:
+        return cause
+    flows[:], words[:], present = rules.to_bits(views(days))
+    return (present,)
+
+
+def from_bits_call(flows, words, days):
+    cause = rules.bad_from_bits(flows, words, len(days))
+    if cause:
+        return cause
+    given, present = rules.from_bits(flows, words)
+    days[:] = [MISSING if d is None else d for d in given]
+    return (present,)
+
+
 def read_call(data, days):
     answer = rules.read(data, len(days))
     if isinstance(answer, Refusal):
@@ -235,6 +260,66 @@ def show_float(kind, data):
     out.append(words('meter', kind, int.from_bytes(data, 'little')) + result + ', reading' + result)
 
 
+def show_to_bits(days, flows, words_of):
+    result = to_bits_call(days, flows, words_of)
+    text = words(', words', check_sum(words_of)) + words(', flows', check_sum(flows))
+    out.append(words('to bits', len(days)) + answer(result, 'present') + text)
+
+
+def show_from_bits(flows, words_of, days):
+    result = from_bits_call(flows, words_of, days)
+    out.append(words('from bits', len(flows)) + answer(result, 'present') + words(', days', check_sum(days)))
+
+
+def show_bits_filter(method, p, q, s, passes, flows, words_of, base):
+    cause = over_bits(lambda days: filter_call(method, p, q, s, passes, days, base), flows, words_of)
+    out.append(words('bits filter', method, p, q, s, passes) + answer(cause, 'accepted') + base_text(base))
+
+
+def show_bits_line(block_days, factor, flows, words_of, base):
+    cause = over_bits(lambda days: line_call(block_days, factor, days, base), flows, words_of)
+    out.append(words('bits line', block_days, factor) + answer(cause, 'accepted') + base_text(base))
+
+
+def show_bits_staggered(block_days, factor, choice, flows, words_of, base, work):
+    cause = over_bits(lambda days: staggered_call(block_days, factor, choice, days, base, work), flows, words_of)
+    out.append(words('bits staggered', block_days, factor, choice) + answer(cause, 'accepted') + base_text(base))
+    out.append('work' + base_text(work))
+
+
+def show_bits_totals(flows, words_of, base):
+    out.append('bits totals' + answer(over_bits(lambda days: totals_call(days, base), flows, words_of), 'summed'))
+
+
+def show_bits_ratios(limb_days, flows, words_of, base, limbs):
+    result = over_bits(lambda days: ratios_call(limb_days, days, base, limbs), flows, words_of)
+    out.append(words('bits ratios', limb_days) + answer(result, 'found') + words(', limbs', check_sum(limbs)))
+
+
+def show_bits_bfimax(last_day, duration, p, flows, words_of, base):
+    result = over_bits(lambda days: bfimax_call(last_day, duration, p, days, base), flows, words_of)
+    out.append(words('bits bfimax', last_day, duration, p) + answer(result, 'found') + base_text(base))
+
+
+def in_bits(days, filters, lines, spell):
+    """A river as flows and words, and back. Over these the calls have to give what they gave over the days."""
+    flows, words_of, began = [0] * len(days), [0] * rules.words_for(len(days)), len(out)
+    base, work, again = [0] * len(days), [0] * (lines[0] * len(days)), [0] * len(days)
+    show_to_bits(days, flows, words_of)
+    show_bits_filter(1, 9250, 0, 0, 3, flows, words_of, base)
+    show_bits_totals(flows, words_of, base)
+    show_bits_line(5, 9000, flows, words_of, base)
+    show_bits_totals(flows, words_of, base)
+    show_bits_ratios(2, flows, words_of, base, [0] * 8192)
+    for setting in filters:
+        show_bits_filter(*setting, flows, words_of, base)
+    show_bits_staggered(*lines, flows, words_of, base, work)
+    show_bits_bfimax(*spell, flows, words_of, base)
+    assert {line.removeprefix('bits ') for line in out[began + 1:] if ': refused' not in line} <= set(out[:began])
+    show_from_bits(flows, words_of, again)
+    assert again == days
+
+
 def thirty_years(seed, gaps):
     days, base = river(10957, seed, gaps), [0] * 10957
     out.append(words('thirty years', gaps) + words(', days', check_sum(days)))
@@ -259,6 +344,7 @@ def thirty_years(seed, gaps):
         show_ratios(limb_days, days, base, [0] * 8192)
     for spell in ((10_956, 60, 9800), (5000, 3650, 9500), (29, 30, 9999)):
         show_bfimax(*spell, days, base)
+    in_bits(days, [(7, 9700, 300, -9999, 1)], (5, 9000, 3), (5000, 3650, 9500))
 
 
 def full_record():
@@ -275,6 +361,7 @@ def full_record():
     show_ratios(2, days, base, [0] * 8192)
     show_staggered(2, 9000, 3, days, base, [0] * (2 * 36525))
     show_bfimax(36_524, 3650, 9780, days, base)
+    in_bits(days, [], (2, 9000, 3), (36_524, 3650, 9780))
 
 
 def floats(*values):
@@ -338,8 +425,71 @@ def refusals():
         show_float(2, data)
     for kind, value in ((2, 10_000_001), (1, 10_000.0009765625), (2, 3.4e38), (1, 3.4e38)):
         show_float(kind, *floats(value))
+    bits_refusals()
     seen = {line.split(': refused ')[1].split(',')[0] for line in out if ': refused ' in line}
-    assert seen == {str(n) for n in range(1, 28)}, seen
+    assert seen == {str(n) for n in range(1, 29)}, seen
+
+
+def bits_refusals():
+    flows, words_of = [7, 7], [7]
+    show_to_bits([1] * 36526, flows, words_of)
+    show_to_bits([1] * 3, flows, words_of)
+    show_to_bits([1, 1], flows, [])
+    show_to_bits([1, 10_000_001], flows, [7, 7])
+    show_to_bits([1, 10_000_001], flows, words_of)
+    show_to_bits([MISSING, 10_000_000], flows, words_of)
+    days = [7, 7]
+    for flows, words_of in (([1] * 36526, [3]), ([1] * 3, [7]), ([1, 1], []), ([1, 1], [3, 0]), ([1, 1], [7]),
+                            ([1, 1], [2**63 + 3]), ([1, 1], [2]), ([MISSING, MISSING], [2]), ([1, 10_000_001], [3]),
+                            ([1, MISSING], [3]), ([0, 10_000_000], [2])):
+        show_from_bits(flows, words_of, days)
+    flows, days = [7] * 65, [7] * 65
+    show_to_bits([1] * 65, flows, [7])
+    show_to_bits([1] * 65, flows, [7, 7])
+    show_to_bits([1] * 64, [7] * 64, [7])
+    show_to_bits([], [], [])
+    show_to_bits([], [], [7])
+    for ones in ([2**64 - 1], [2**64 - 1, 1], [2**64 - 1, 3]):
+        show_from_bits([1] * 65, ones, days)
+    show_from_bits([], [], [])
+    form, base, work, limbs = ([100, 200], [1]), [7, 7], [7] * 4, [7, 7]
+    for setting in ((8, 9250, 0, 0, 1), (2, 3333, 0, 0, 1), (2, 9250, 0, 0, 2)):
+        show_bits_filter(*setting, *form, base)
+    show_bits_line(31, 9000, *form, base)
+    show_bits_staggered(2, 9000, 4, *form, base, work)
+    show_bits_staggered(1, 9000, 1, *form, base, work)
+    show_bits_ratios(61, *form, base, limbs)
+    show_bits_bfimax(1, 2, 0, *form, base)
+    show_bits_bfimax(1, 1, 9500, *form, base)
+    for form in (([1] * 36526, [3]), ([1] * 3, [3]), ([1, 1], [3, 0]), ([1, 1], []), ([1, 1], [7]), ([1, 1], [1]),
+                 ([MISSING, MISSING], [1]), ([1, MISSING], [3]), ([1, 10_000_001], [3])):
+        each_call(form)
+    bits_values()
+
+
+def each_call(form):
+    base = [7, 7]
+    show_bits_filter(1, 9250, 0, 0, 1, *form, base)
+    show_bits_line(1, 9000, *form, base)
+    show_bits_staggered(1, 9000, 1, *form, base, [7, 7])
+    show_bits_totals(*form, base)
+    show_bits_ratios(2, *form, base, [7, 7])
+    show_bits_bfimax(1, 2, 9500, *form, base)
+
+
+def bits_values():
+    form, base, limbs = ([0, 100, 90, 81, 0], [15]), [NO_VALUE] * 5, [7]
+    show_bits_line(1, 9000, *form, base)
+    show_bits_staggered(1, 9000, 1, *form, base, [7] * 5)
+    show_bits_totals(*form, base)
+    show_bits_ratios(2, *form, base, limbs)
+    show_bits_bfimax(4, 2, 9500, *form, base)
+    show_bits_ratios(2, *form, [0, 100_000, 90_000, 81_000, NO_VALUE], limbs)
+    show_bits_totals(*form, [0] * 5)
+    show_bits_ratios(2, *form, [0] * 5, limbs)
+    form, base = ([0, 100, 0, 0], [14]), [7] * 4
+    show_bits_bfimax(3, 2, 9500, *form, base)
+    show_bits_bfimax(3, 3, 9500, *form, base)
 
 
 def half_lives():

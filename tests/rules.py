@@ -254,6 +254,69 @@ def meter(data):
     return Refusal(27) if litres > MOST_FLOW else litres
 
 
+# "Presence"
+EARLIER = 11, 12, 13, 16, 18, 23, 9, 14, 25  # what a call over presence bits tests before 28
+
+
+def words_for(count):
+    return -(-count // 64)
+
+
+def to_bits(days):
+    """The flows, the words, and how many days are present."""
+    flows = [0 if day is None else day for day in days]
+    words = [sum((day is not None) << i for i, day in enumerate(days[at:at + 64])) for at in range(0, len(days), 64)]
+    return flows, words, sum(day is not None for day in days)
+
+
+def bits(words):
+    return [word >> i & 1 for word in words for i in range(64)]
+
+
+def from_bits(flows, words):
+    """The days, and how many are present."""
+    days = [flow if bit else None for flow, bit in zip(flows, bits(words))]
+    return days, sum(bits(words))
+
+
+def bad_words(flows, words):
+    """28 or None."""
+    if len(words) != words_for(len(flows)):
+        return Refusal(28)
+    ones = bits(words)
+    kept = any(flow != 0 and not bit for flow, bit in zip(flows, ones))
+    return Refusal(28) if any(ones[len(flows):]) or kept else None
+
+
+def bad_to_bits(days, flows_len, words_len):
+    """The first cause to refuse days that may hold a number above the limit, or None."""
+    if len(days) > MOST_DAYS:
+        return Refusal(9)
+    if flows_len != len(days):
+        return Refusal(14)
+    if words_len != words_for(len(days)):
+        return Refusal(28)
+    return Refusal(10) if any(day is not None and day > MOST_FLOW for day in days) else None
+
+
+def bad_from_bits(flows, words, days_len):
+    """The first cause to refuse, or None."""
+    if len(flows) > MOST_DAYS:
+        return Refusal(9)
+    if days_len != len(flows):
+        return Refusal(14)
+    return bad_words(flows, words) or (Refusal(10) if any(flow > MOST_FLOW for flow in flows) else None)
+
+
+def over_bits(call, flows, words):
+    """What a call over a day list, which `call` makes of it, answers over flows and words. What it tests before 28 does
+    not look at a day, and of days that are all refused it writes nothing."""
+    if not bad_words(flows, words):
+        return call(from_bits(flows, words)[0])
+    answer = call([MOST_FLOW + 1] * len(flows))
+    return answer if isinstance(answer, Refusal) and answer in EARLIER else Refusal(28)
+
+
 # "Recession ratios": 6.1 to 6.6
 def whole_flows(days):
     """A base list with every present day at base."""

@@ -5,6 +5,8 @@
 // match for each call that has values, since its arm writes to out-parameters, which a closure could not do with as little text.
 #![tactic(auto)]
 
+mod over_bits;
+
 ghost use Rattle.std.specs.Prelude.{◌≡◌, length};
 ghost use Rattle.series.specs.Causes.{refusal_of, first_cause};
 ghost use Rattle.record.specs.Call.{reading, reply_of, read_leaves};
@@ -20,6 +22,10 @@ ghost use Rattle.baseflow.specs.Interface.{returned, returned_cause, handed_out,
 
 use filter::{DailyFilter, Setting, Yesterday};
 use minima::LineSetting;
+pub use over_bits::{
+    baseflow_bfimax_bits, baseflow_filter_bits, baseflow_from_bits, baseflow_line_bits,
+    baseflow_recession_bits, baseflow_staggered_bits, baseflow_to_bits, baseflow_totals_bits,
+};
 use series::Refusal;
 
 // 0 for an accepted call, else the number of its refusal.

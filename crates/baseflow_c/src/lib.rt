@@ -3,6 +3,8 @@
 // Kept: a function for each call, alike but for names, since C links them by name and each has its own parameters.
 #![tactic(auto)]
 
+mod over_bits;
+
 ghost use Rattle.std.specs.Prelude.{◌≡◌, length};
 ghost use Rattle.series.specs.Causes.{first_cause};
 ghost use Rattle.record.specs.Call.{reading, reply_of, read_leaves};

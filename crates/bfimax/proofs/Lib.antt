@@ -3,3 +3,4 @@ mod Examples
 mod Stretch
 mod Spells
 mod Calls
+pub mod Order

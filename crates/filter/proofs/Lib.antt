@@ -8,3 +8,4 @@ mod Days
 mod Turns
 pub mod Calls
 mod Examples
+pub mod Order

@@ -10,3 +10,4 @@ mod Values
 pub mod Distance
 pub mod Acceptance
 mod Examples
+pub mod Order

@@ -11,3 +11,4 @@ mod Listing
 mod Consequences
 mod Outcomes
 mod Groups
+pub mod Order

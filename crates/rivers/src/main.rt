@@ -2,7 +2,9 @@
 // stdout holds what tests/rivers.py works out by document 01's rules.
 #![tactic(auto)]
 
+mod bits_refusals;
 mod calls;
+mod over_bits;
 mod published;
 mod reading_of;
 mod record_of;
@@ -11,6 +13,7 @@ mod river;
 mod show;
 
 use calls::{River, plain, signed};
+use over_bits::BitRiver;
 use record_of::record_of;
 use river::Gaps;
 use std::alloc::Global;
@@ -77,8 +80,57 @@ fn spells(river: &mut River<'_, '_, impl Print>) -> io::Result<()> {
     river.bfimax(29, 30, 9999)
 }
 
+// Calls over presence bits that thirty years and a full record share. Each gives what the call over the days gave.
+fn all_over_bits(river: &mut BitRiver<'_, '_, impl Print>) -> io::Result<()> {
+    let mut limbs = [0u32; 8192];
+    river.filter(plain(1, 9250, 0), 3)?;
+    river.totals()?;
+    river.line(5, 9000)?;
+    river.totals()?;
+    river.ratios(2, &mut limbs)
+}
+
+// Thirty years as flows and words, and the days again.
+fn years_in_bits(rt: &impl Print, days: &[u32], base: &mut [u64]) -> io::Result<()> {
+    let mut flows = [0u32; 10957];
+    let mut words = [0u64; 172];
+    let mut work = [0u64; 54785];
+    let mut again = [0u32; 10957];
+    over_bits::to_bits(rt, days, &mut flows, &mut words)?;
+    let mut river = BitRiver {
+        rt,
+        flows: &flows,
+        words: &words,
+        base,
+    };
+    all_over_bits(&mut river)?;
+    river.filter(signed(7, 9700, 300, -9999), 1)?;
+    river.staggered(5, 9000, 3, &mut work)?;
+    river.bfimax(5000, 3650, 9500)?;
+    over_bits::from_bits(rt, &flows, &words, &mut again)
+}
+
+// A full record as flows and words, and the days again.
+fn record_in_bits(rt: &impl Print, days: &[u32], base: &mut [u64]) -> io::Result<()> {
+    let mut flows = [0u32; 36525];
+    let mut words = [0u64; 571];
+    let mut work = [0u64; 73050];
+    let mut again = [0u32; 36525];
+    over_bits::to_bits(rt, days, &mut flows, &mut words)?;
+    let mut river = BitRiver {
+        rt,
+        flows: &flows,
+        words: &words,
+        base,
+    };
+    all_over_bits(&mut river)?;
+    river.staggered(2, 9000, 3, &mut work)?;
+    river.bfimax(36_524, 3650, 9780)?;
+    over_bits::from_bits(rt, &flows, &words, &mut again)
+}
+
 // Thirty years of days through every method and number of passes, the daily step, the line, the staggered lines, the ratios
-// and BFImax.
+// and BFImax; then as flows and words.
 fn thirty_years(rt: &impl Print, seed: u32, gaps: Gaps) -> io::Result<()> {
     let mut days = [0u32; 10957];
     let mut base = [0u64; 10957];
@@ -96,7 +148,8 @@ fn thirty_years(rt: &impl Print, seed: u32, gaps: Gaps) -> io::Result<()> {
     lines(&mut river)?;
     all_staggered(&mut river)?;
     limbs_at_base(&mut river)?;
-    spells(&mut river)
+    spells(&mut river)?;
+    years_in_bits(rt, &days, &mut base)
 }
 
 // A full record, of 36,525 days, written and read back into the same list.
@@ -115,7 +168,8 @@ fn full_record(rt: &impl Print, alloc: Global) -> io::Result<()> {
     river.line_and_totals(5, 9000)?;
     limbs(&river, &[2])?;
     two_staggered(&mut river)?;
-    river.bfimax(36_524, 3650, 9780)
+    river.bfimax(36_524, 3650, 9780)?;
+    record_in_bits(rt, &days, &mut base)
 }
 
 // Half-lives at both ends of the range, beside it, and where a half is met exactly.
@@ -171,6 +225,17 @@ fn metered_years(rt: &impl Print) -> io::Result<()> {
     })
 }
 
+// Every refusal of the calls over presence bits.
+fn bits_refused(rt: &impl Print) -> io::Result<()> {
+    bits_refusals::of_to_bits(rt)?;
+    bits_refusals::of_from_bits(rt)?;
+    bits_refusals::of_word_counts(rt)?;
+    bits_refusals::of_settings(rt)?;
+    bits_refusals::of_lists(rt)?;
+    bits_refusals::of_values(rt)?;
+    bits_refusals::of_spells(rt)
+}
+
 fn main(rt: HostRuntime) -> io::Result<()> {
     thirty_years(&rt, 1, Gaps::Nowhere)?;
     thirty_years(&rt, 2, Gaps::AtStart)?;
@@ -188,6 +253,7 @@ fn main(rt: HostRuntime) -> io::Result<()> {
     refusals::of_staggered(&rt)?;
     refusals::of_meters(&rt)?;
     refusals::of_floats(&rt)?;
+    bits_refused(&rt)?;
     half_lives(&rt)?;
     readings(&rt)?;
     metered_years(&rt)?;

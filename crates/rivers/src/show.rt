@@ -36,6 +36,11 @@ pub fn list(rt: &impl Print, name: &str, list: &[u32]) -> io::Result<()> {
     println!(rt; ", {name} {}", check_sum(list))
 }
 
+// The check sum of words, within a line.
+pub fn words(rt: &impl Print, words: &[u64]) -> io::Result<()> {
+    print!(rt; ", words {}", check_sum(words))
+}
+
 pub fn refusal(rt: &impl Print, refusal: Refusal) -> io::Result<()> {
     print!(rt; ": refused {}", refusal.number())
 }

@@ -4,6 +4,7 @@ pub mod Runs
 pub mod Alone
 pub mod SegmentParts
 pub mod Refusing
+pub mod AtTen
 pub mod Bytes
 pub mod Gaps
 pub mod FreshRuns

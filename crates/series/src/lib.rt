@@ -75,6 +75,8 @@ pub enum Refusal {
     InvalidReading = 26,
     // 27: a reading of more than 10,000,000 litres a second
     ReadingTooLarge = 27,
+    // 28: presence words that are too many or too few, a one past the last day, or a flow under a zero
+    InvalidPresence = 28,
 }
 
 impl Refusal {

@@ -6,3 +6,4 @@ mod Distance
 mod Loops
 mod Calls
 mod Examples
+pub mod Order

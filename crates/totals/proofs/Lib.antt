@@ -3,3 +3,4 @@ mod Examples
 mod Summing
 pub mod Outcomes
 pub mod Distance
+pub mod Order

@@ -1,0 +1,4 @@
+pub mod Sentences
+mod Examples
+mod OverForm
+mod Forms

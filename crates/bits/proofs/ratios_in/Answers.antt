@@ -1,0 +1,17 @@
+-- `bits::ratios_in` meets its contract: the recession ratios, over the days laid out.
+use Rattle.recession.specs.Call.{listed_limbs, ratio_outcome, ratio_leaves}
+use Rattle.recession.proofs.Order.{ratios_at_10, no_days}
+use Rattle.bits.specs.Calls.{ratio_bits_causes, statistics_of}
+use Rattle.bits.proofs.OverForm.{outcome_over, left}
+use Rattle.bits.proofs.ratios_in.Goals as goal
+
+pub returns-clause-answer : goal.returns-clause-answer
+unfolding ratio_bits_causes ratio_outcome statistics_of
+returns-clause-answer c = outcome_over (ratios_at_10 c.args.shortest c.args.base.now c.args.limbs.now) c.args.flows.now c.args.words.now c.of-form.ensures (λ ds. statistics_of c.args.shortest ds c.args.base.now) c.ratios.result c.answer.ensures c.ratios.ensures.answer
+
+pub returns-clause-limb_list : goal.returns-clause-limb_list
+unfolding ratio_bits_causes ratio_leaves
+returns-clause-limb_list c =
+    left (ratios_at_10 c.args.shortest c.args.base.now c.args.limbs.now) c.args.flows.now c.args.words.now c.of-form.ensures
+    (λ e z. absurd (no_days c.args.shortest c.of-form.result.days.now c.args.base.now c.args.limbs.now z e))
+    (λ ds. listed_limbs c.args.shortest ds c.args.base.now c.args.limbs.now) c.ratios.ensures.limb_list

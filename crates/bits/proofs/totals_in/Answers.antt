@@ -1,0 +1,10 @@
+-- `bits::totals_in` meets its contract: the totals, over the days laid out.
+use Rattle.totals.specs.Call.{listed_days, totals_of, totals_outcome}
+use Rattle.totals.proofs.Order.{totals_at_10}
+use Rattle.bits.specs.Calls.{totals_bits_causes}
+use Rattle.bits.proofs.OverForm.{outcome_over}
+use Rattle.bits.proofs.totals_in.Goals as goal
+
+pub returns : goal.returns
+unfolding totals_bits_causes totals_outcome
+returns c = record { answer = outcome_over (totals_at_10 c.args.base.now) c.args.flows.now c.args.words.now c.of-form.ensures (λ ds. totals_of (listed_days ds c.args.base.now)) c.total.result c.answer.ensures c.total.ensures }

@@ -1,0 +1,7 @@
+pub mod Sentences
+mod Examples
+mod Bits
+mod Loops
+mod Under
+mod Words
+mod Calls
