@@ -21,10 +21,11 @@ use Rattle.presence.specs.Private.{word_of}
 use Rattle.presence.proofs.Bits.{zero_at}
 use Rattle.presence.proofs.Loops.{found_more, part_of}
 
-one_at : (words : List ℕ) (k j : ℕ) → j < 64 → is_one words (64 * k + j) ≡ eqb (bit_at (get_or words k 0) j) 1
-one_at words k j h =
-    let a : (64 * k + j) / 64 ≡ k = omega arith in
-    let b : (64 * k + j) % 64 ≡ j = omega arith in
+-- a day by its place in a word
+pub one_at : (words : List ℕ) (k j i : ℕ) → i ≡ 64 * k + j → j < 64 → is_one words i ≡ eqb (bit_at (get_or words k 0) j) 1
+one_at words k j i e h =
+    let a : i / 64 ≡ k = omega arith in
+    let b : i % 64 ≡ j = omega arith in
     ap₂ (λ x y. eqb (bit_at (get_or words x 0) y) 1) a b
 
 -- none where each flow that is not 0 has its one
@@ -74,7 +75,7 @@ module _ (words : List ℕ) (k : ℕ) (flows : List ℕ) (few : length flows ≤
       ]
     where
       by_bit : (b : Bool) → is_one words (64 * k + j) ≡ b → j < length flows → (get_or flows j 0 ≡ 0 → ⊥) → bit_at ones j ≤ bit_at word j
-      by_bit true o h n = omega (arith, one_of_flow j h n, eqb-true (bit_at word j) 1 (sym (one_at words k j (omega arith)) ∙ o))
+      by_bit true o h n = omega (arith, one_of_flow j h n, eqb-true (bit_at word j) 1 (sym (one_at words k j (64 * k + j) refl (omega arith)) ∙ o))
       by_bit false o h n = absurd (n (zero_at words (64 * k) flows j e h o))
 
   all_in : flow_under_zero words (64 * k) flows ≡ false → bit_or ones word ≡ word
@@ -85,7 +86,7 @@ module _ (words : List ℕ) (k : ℕ) (flows : List ℕ) (few : length flows ≤
       none_under words (64 * k) flows
       (λ j h n.
       let m : bit_at word j ≡ max (bit_at ones j) (bit_at word j) = ap (λ w. bit_at w j) (sym e) ∙ bit_at_or ones word j in
-      one_at words k j (omega arith) ∙ eq-eqb (bit_at word j) 1 (omega (arith, m, one_of_flow j h n, bit_at-lt word j)))
+      one_at words k j (64 * k + j) refl (omega arith) ∙ eq-eqb (bit_at word j) 1 (omega (arith, m, one_of_flow j h n, bit_at-lt word j)))
 
   pub under_word : flow_under_zero words (64 * k) flows ≡ not (eqb (bit_or ones word) word)
   under_word =

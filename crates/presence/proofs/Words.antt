@@ -9,33 +9,23 @@ use lib.ListN.{length, get_or, take, drop, set, length-append, length-drop, drop
 use lib.Seq.{length-take-le, take_all, take_at, drop-drop}
 use lib.Dec.{eqb}
 use Rattle.std.specs.Prelude.{min}
-use Rattle.std.specs.Int.{bit_at}
-use Rattle.std.proofs.lemmas.List.{take_min}
 use Rattle.std.proofs.lemmas.Nat.Bits.{bit_at_ones}
 use Rattle.series.specs.Units.{missing_mark}
 use Rattle.presence.specs.Form.{is_one, word_count, days_from, days_of}
-use Rattle.presence.proofs.Loops.{day_turn}
+use Rattle.presence.proofs.Loops.{day_turn, part_of}
+use Rattle.presence.proofs.Under.{one_at}
 use Rattle.presence.proofs.Sentences.{length_of_days}
 
 -- a day of a word alone, and of the words
-one_at : (word i : ℕ) → i < 64 → is_one (word ∷ []) i ≡ eqb (word / 2 ^ i % 2) 1
-one_at word i h =
-    let q : i / 64 ≡ 0 = omega arith in
-    let r : i % 64 ≡ i = omega arith in
-    ap₂ (λ x y. eqb (bit_at (get_or (word ∷ []) x 0) y) 1) q r
-
 one_of : (words : List ℕ) (k j i : ℕ) → i ≡ 64 * k + j → j < 64 → is_one words i ≡ is_one (get_or words k 0 ∷ []) j
-one_of words k j i e h =
-    let q : i / 64 ≡ k = omega arith in
-    let r : i % 64 ≡ j = omega arith in
-    ap₂ (λ x y. eqb (bit_at (get_or words x 0) y) 1) q r ∙ sym (one_at (get_or words k 0) j h)
+one_of words k j i e h = one_at words k j i e h ∙ sym (one_at (get_or words k 0 ∷ []) 0 j j (omega arith) h)
 
 -- a turn within a word
 pub bit_turn : (flows days : List ℕ) (word i v : ℕ) → take i days ++ days_from (word ∷ []) i (drop i flows) ≡ days_of flows (word ∷ []) → i < length flows → i < length days → length flows ≤ 64
     → v ≡ cond (eqb (word / 2 ^ i % 2) 1) (get_or flows i 0) missing_mark
     → take (i + 1) (set days i v) ++ days_from (word ∷ []) (i + 1) (drop (i + 1) flows) ≡ days_of flows (word ∷ [])
 bit_turn flows days word i v e h k few w =
-    let v' : v ≡ cond (is_one (word ∷ []) i) (get_or flows i 0) missing_mark = w ∙ ap (λ b. cond b (get_or flows i 0) missing_mark) (sym (one_at word i (omega arith))) in
+    let v' : v ≡ cond (is_one (word ∷ []) i) (get_or flows i 0) missing_mark = w ∙ ap (λ b. cond b (get_or flows i 0) missing_mark) (sym (one_at (word ∷ []) 0 i i (omega arith) (omega arith))) in
     ap (λ x. take (i + 1) (set days i x) ++ days_from (word ∷ []) (i + 1) (drop (i + 1) flows)) v' ∙ day_turn flows (word ∷ []) days i e h k
 
 -- a word of ones alone
@@ -43,7 +33,7 @@ ones_from : (i : ℕ) (flows : List ℕ) → i + length flows ≤ 64 → days_fr
 unfolding days_from
 ones_from i [] h = refl
 ones_from i (flow ∷ flows) h =
-    let one : is_one ((2 ^ 64 - 1) ∷ []) i ≡ true = one_at (2 ^ 64 - 1) i (omega arith) ∙ ap (λ b. eqb b 1) (bit_at_ones 64 i (omega arith)) in
+    let one : is_one ((2 ^ 64 - 1) ∷ []) i ≡ true = one_at ((2 ^ 64 - 1) ∷ []) 0 i i (omega arith) (omega arith) ∙ ap (λ b. eqb b 1) (bit_at_ones 64 i (omega arith)) in
     ap₂ (λ b l. cond b flow missing_mark ∷ l) one (ones_from (suc i) flows (omega arith))
 
 pub all_present : (word : ℕ) (flows : List ℕ) → word ≡ 2 ^ 64 - 1 → length flows ≤ 64 → days_of flows (word ∷ []) ≡ flows
@@ -68,11 +58,6 @@ unfolding days_of
 put_start flows words days = let none : min 0 (length flows) ≡ 0 = omega arith in ap (λ m. take m days ++ days_from words 0 flows) none
 
 -- the flows of a word are 64, or those that are left
-part_of : (flows : List ℕ) (start end : ℕ) → end ≡ min (length flows) (start + 64) → take (end - start) (drop start flows) ≡ take 64 (drop start flows)
-part_of flows start end e =
-    let size : end - start ≡ min 64 (length (drop start flows)) = omega (arith, length-drop start flows) in
-    rw size (take_min 64 (drop start flows))
-
 pub put_turn : (flows words days ys : List ℕ) (k start end : ℕ) → PutTo flows words days k → length days ≡ length flows → length words ≡ word_count (length flows) → k < length words → start ≡ k * 64 → end ≡ min (length flows) (start + 64)
     → ys ≡ days_of (take (end - start) (drop start flows)) (get_or words k 0 ∷ [])
     → PutTo flows words (take start days ++ (ys ++ drop (end - start) (drop start days))) (k + 1)
