@@ -19,7 +19,7 @@ static const uint32_t sizes[SIZES] = {1000, 10000, MOST};
 enum input { FLOWS, GAPS, MIXED, LATE, SUMMERS, LENGTHS, TWOS };
 enum call {
     READ, FILTER, STEP, LINE, TOTALS, RECESSION, BFIMAX, STAGGERED, HALF_LIFE, METER, TO_BITS, FROM_BITS, FILTER_BITS,
-    TOTALS_BITS
+    TOTALS_BITS, RECESSION_BITS
 };
 
 static const struct job {
@@ -67,6 +67,7 @@ static const struct job {
     {"from bits, many gaps", FROM_BITS, MIXED, 0, 0, 0, 0, 0},
     {"filter over bits, method 1", FILTER_BITS, GAPS, 1, 9250, 0, 0, 1},
     {"totals over bits, few gaps", TOTALS_BITS, GAPS, 0, 0, 0, 0, 0},
+    {"ratios over bits, L 2", RECESSION_BITS, GAPS, 2, 0, 0, 0, 0},
 };
 enum { JOBS = sizeof jobs / sizeof *jobs };
 
@@ -153,7 +154,7 @@ static void lay_readings(uint32_t size)
 static void give_base(const struct job *job)
 {
     uint32_t refusal = 0;
-    if (job->call != RECESSION)
+    if (job->call != RECESSION && job->call != RECESSION_BITS)
         refusal = reference_filter(1, 9250, 0, 0, 1, days, count, given_base, count);
     else if (job->p != 0)
         refusal = reference_line(job->p, job->q, days, count, given_base, count);
@@ -276,6 +277,10 @@ static uintptr_t stack_before;
         case TOTALS_BITS:                                                                                              \
             (r)->answer = prefix##totals_bits(BITS, given_base, count, &(r)->small[0], &(r)->large[0],                 \
                                               &(r)->large[1], &(r)->large[2], &(r)->small[1]);                         \
+            break;                                                                                                     \
+        case RECESSION_BITS:                                                                                           \
+            (r)->answer = prefix##recession_bits((job)->first, BITS, given_base, count, (r)->limbs, count,             \
+                                                 &(r)->small[0], &(r)->small[1]);                                      \
             break;                                                                                                     \
         default:                                                                                                       \
             (r)->answer = prefix##bfimax(count - 1, (job)->first < count ? (job)->first : count, (job)->p, days,       \

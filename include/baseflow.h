@@ -33,11 +33,12 @@
  * What the caller gets
  *   - No state is kept between calls and no global data is written: calls are re-entrant, and may run at the same time
  *     on different buffers.
- *   - No allocation, no input or output, no exit, no panic. Of the C library only memset is needed. No floating point,
- *     but vector registers may be used, as by any code for x86-64.
+ *   - No allocation, no input or output, no exit, no panic. Of the C library only memmove and memset are needed. No
+ *     floating point, but vector registers may be used, as by any code for x86-64.
  *   - Every call ends, after a time that grows linearly with the lengths that it is given.
- *   - Stack, as bench/run measures it: baseflow_recession keeps three arrays of counters and needs 147 KiB; a call over
- *     presence bits lays out its days and needs 144 KiB more than its sister; all others stay below 1 KiB.
+ *   - Stack, as bench/run measures it: baseflow_recession keeps three arrays of counters and needs 127 KiB; a call over
+ *     presence bits lays out its days and needs 6 KiB more than its sister for up to 1,461 days, 43 KiB for up to 10,958,
+ *     and 144 KiB for more; so no call needs more than 270 KiB, and all others stay below 1 KiB.
  */
 #ifndef BASEFLOW_H
 #define BASEFLOW_H
@@ -275,7 +276,7 @@ uint32_t baseflow_from_bits(const uint32_t *flows, size_t flows_len, const uint6
 /*
  * The calls over a day list, over flows and words in its place: over a form that converts, each answers and writes what its
  * sister does over the days of that form. Each refuses in its sister's order, with 28 just before 10; its 14 compares base
- * with flows. The days are laid out on the call's own stack: 144 KiB more than its sister needs.
+ * with flows. The days are laid out on the call's own stack (see "What the caller gets").
  */
 uint32_t baseflow_filter_bits(uint32_t method, uint32_t p, uint32_t q, int32_t s, uint32_t passes, const uint32_t *flows,
                               size_t flows_len, const uint64_t *words, size_t words_len, uint64_t *base,

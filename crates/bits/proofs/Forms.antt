@@ -1,6 +1,6 @@
 -- The days of a form as the code lays them out.
 -- Assumes nothing.
-use Prim.Native.Nat.{ℕ, ◌≤◌}
+use Prim.Native.Nat.{ℕ, ◌≤◌, min}
 use mathlib.Core.Path.{◌≡◌, refl, sym, ◌∙◌, ap}
 use mathlib.Core.Bool.{Bool, true, false, true≢false, false≢true, ◌||◌, or-true}
 use mathlib.Core.List.{List, [], ◌∷◌}
@@ -33,7 +33,7 @@ unfolding any_invalid_day is_invalid_day is_flow is_missing
 spoiled_days [] = refl
 spoiled_days (d ∷ ds) = or-true _
 
-pub room_for : (flows room : List ℕ) → too_long flows ≡ false → day_limit ≤ length room → length flows ≡ length (take (length flows) room)
+pub room_for : (flows room : List ℕ) → too_long flows ≡ false → min (length flows) day_limit ≤ length room → length flows ≡ length (take (length flows) room)
 room_for flows room e h = sym (length-take-le (length flows) room (omega (arith, few_days flows e)))
 
 -- 9

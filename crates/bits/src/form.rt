@@ -1,25 +1,66 @@
-// The days of a form, laid out in lent room.
-ghost use Rattle.std.specs.Prelude.{◌≡◌, ◌≤◌, ◌||◌, true, length, eqb};
+// A call over the days of a form, laid out in room on the stack.
+ghost use Rattle.std.specs.Prelude.{◌≡◌, ◌≤◌, ◌||◌, true, length, eqb, min};
 ghost use Rattle.series.specs.Lists.{any_invalid_day};
 ghost use Rattle.series.specs.Causes.{refusal_number};
 ghost use Rattle.series.specs.Units.{day_limit};
 ghost use Rattle.series.proofs.AtTen.{comes_before_10};
-ghost use Rattle.bits.specs.Private.{LaidOut, over_answer};
+ghost use Rattle.bits.specs.Private.{LaidOut, over_answer, Called};
 
-use series::Refusal;
+use series::{DAY_LIMIT, Refusal};
+
+// Rooms of so many days: four years, thirty years, and all that a list may have.
+const FOUR_YEARS: usize = 1_461;
+
+const THIRTY_YEARS: usize = 10_958;
+
+// The call over the days that a form stands for, in the least room that has place for them: clearing the largest takes longer than
+// a call over a short record. A call that writes fewer than two lists is lent empty ones in their place.
+pub(crate) fn over_form<
+    T: Copy,
+    R: Copy,
+    F: FnOnce(&[u32], &mut [u64], &mut [T]) -> Result<R, Refusal>,
+>(flows: &[u32], words: &[u64], base: &mut [u64], list: &mut [T], call: F) -> Result<R, Refusal>
+    requires { F.IsAlwaysCallable call }
+    ensures { Called (F.post call) flows.now words.now base.old list.old result base.new list.new }
+{
+    if flows.len() <= FOUR_YEARS {
+        in_room::<FOUR_YEARS, T, R, F>(flows, words, base, list, call)
+    } else if flows.len() <= THIRTY_YEARS {
+        in_room::<THIRTY_YEARS, T, R, F>(flows, words, base, list, call)
+    } else {
+        in_room::<DAY_LIMIT, T, R, F>(flows, words, base, list, call)
+    }
+}
+
+// The same, in a room of this size; never inlined, so that no more than one is on the stack.
+#[inline(never)]
+fn in_room<
+    const ROOM: usize,
+    T: Copy,
+    R: Copy,
+    F: FnOnce(&[u32], &mut [u64], &mut [T]) -> Result<R, Refusal>,
+>(flows: &[u32], words: &[u64], base: &mut [u64], list: &mut [T], call: F) -> Result<R, Refusal>
+    requires room { (min (length flows.now) day_limit ≤ ROOM) × (ROOM ≤ day_limit) }
+    requires call { F.IsAlwaysCallable call }
+    ensures { Called (F.post call) flows.now words.now base.old list.old result base.new list.new }
+{
+    let mut room = [0u32; ROOM];
+    let form = Days::of(flows, words, &mut room);
+    form.answer(call(form.days, base, list))
+}
 
 // The days that a form stands for; or, where it stands for none, a list of the same length that no call accepts unless it is empty,
 // and the refusal of the form.
 #[derive(Clone, Copy)]
-pub(crate) struct Days<'a> {
-    pub(crate) days: &'a [u32],
+struct Days<'a> {
+    days: &'a [u32],
     form: Result<u32, Refusal>,
 }
 
 impl<'a> Days<'a> {
     #[tactic(auto, using(crate::proofs::Forms::room_for, crate::proofs::Forms::long_form))]
-    pub(crate) fn of(flows: &'a [u32], words: &[u64], room: &'a mut [u32]) -> Self
-        requires { day_limit ≤ length room.old }
+    fn of(flows: &'a [u32], words: &[u64], room: &'a mut [u32]) -> Self
+        requires { min (length flows.now) day_limit ≤ length room.old }
         ensures { LaidOut flows.now words.now result.days.now result.form }
     {
         if series::too_long(flows) {
@@ -38,7 +79,7 @@ impl<'a> Days<'a> {
     }
 
     // What a call over the form answers, by its answer over these days: what comes before 10 in its order comes before 28.
-    pub(crate) fn answer<T: Copy>(self, answer: Result<T, Refusal>) -> Result<T, Refusal>
+    fn answer<T: Copy>(self, answer: Result<T, Refusal>) -> Result<T, Refusal>
         ensures { result ≡ over_answer self.entry.form answer }
     {
         match (self.form, answer) {

@@ -4,8 +4,7 @@
 
 mod form;
 
-ghost use Rattle.std.specs.Prelude.{◌≡◌, ◌≤◌, length};
-ghost use Rattle.series.specs.Units.{day_limit};
+ghost use Rattle.std.specs.Prelude.{◌≡◌};
 ghost use Rattle.series.specs.Causes.{refusal_of, outcome_of, first_cause};
 ghost use Rattle.staggered.specs.Call.{Promised as StaggeredPromised};
 ghost use Rattle.bfimax.specs.Call.{spell, spell_of, Promised as BfimaxPromised};
@@ -13,10 +12,10 @@ ghost use Rattle.presence.specs.Form.{days_of};
 ghost use Rattle.bits.specs.Calls.{filter_bits_causes, filter_bits_leaves, line_bits_causes, line_bits_leaves, staggered_bits_causes, base_bits_leaves, work_bits_leaves, totals_bits_outcome, ratio_bits_outcome, ratio_bits_leaves, bfimax_bits_outcome, bfimax_bits_leaves};
 
 use filter::Setting;
-use form::Days;
+use form::over_form;
 use minima::LineSetting;
 use recession::Statistics;
-use series::{DAY_LIMIT, Refusal};
+use series::Refusal;
 use totals::Totals;
 
 // Base flow by a filter, over flows and presence words.
@@ -30,25 +29,13 @@ pub fn filter(
     ensures refusal { refusal_of result ≡ first_cause (filter_bits_causes setting passes flows.now words.now base.old) }
     ensures base_list { base.new ≡ filter_bits_leaves setting passes flows.now words.now base.old }
 {
-    let mut room = [0u32; DAY_LIMIT];
-    filter_in(setting, passes, flows, words, base, &mut room)
-}
-
-// The same, with room for a day list.
-fn filter_in(
-    setting: Setting,
-    passes: u32,
-    flows: &[u32],
-    words: &[u64],
-    base: &mut [u64],
-    room: &mut [u32],
-) -> Result<(), Refusal>
-    requires { day_limit ≤ length room.old }
-    ensures refusal { refusal_of result ≡ first_cause (filter_bits_causes setting passes flows.now words.now base.old) }
-    ensures base_list { base.new ≡ filter_bits_leaves setting passes flows.now words.now base.old }
-{
-    let form = Days::of(flows, words, room);
-    form.answer(filter::filter(setting, passes, form.days, base))
+    over_form(
+        flows,
+        words,
+        base,
+        &mut [(); 0],
+        |days, base, _| filter::filter(setting, passes, days, base),
+    )
 }
 
 // Base flow by the minima line.
@@ -61,24 +48,13 @@ pub fn line(
     ensures refusal { refusal_of result ≡ first_cause (line_bits_causes setting flows.now words.now base.old) }
     ensures base_list { base.new ≡ line_bits_leaves setting flows.now words.now base.old }
 {
-    let mut room = [0u32; DAY_LIMIT];
-    line_in(setting, flows, words, base, &mut room)
-}
-
-// The same, with room for a day list.
-fn line_in(
-    setting: LineSetting,
-    flows: &[u32],
-    words: &[u64],
-    base: &mut [u64],
-    room: &mut [u32],
-) -> Result<(), Refusal>
-    requires { day_limit ≤ length room.old }
-    ensures refusal { refusal_of result ≡ first_cause (line_bits_causes setting flows.now words.now base.old) }
-    ensures base_list { base.new ≡ line_bits_leaves setting flows.now words.now base.old }
-{
-    let form = Days::of(flows, words, room);
-    form.answer(minima::line(setting, form.days, base))
+    over_form(
+        flows,
+        words,
+        base,
+        &mut [(); 0],
+        |days, base, _| minima::line(setting, days, base),
+    )
 }
 
 // Base flow by staggered blocks.
@@ -95,50 +71,26 @@ pub fn staggered(
     ensures work_list { work.new ≡ work_bits_leaves setting choice flows.now words.now base.old work.old }
     ensures error { StaggeredPromised (refusal_of result) setting choice (days_of flows.now words.now) }
 {
-    let mut room = [0u32; DAY_LIMIT];
-    staggered_in(setting, choice, flows, words, base, work, &mut room)
-}
-
-// The same, with room for a day list.
-fn staggered_in(
-    setting: LineSetting,
-    choice: u32,
-    flows: &[u32],
-    words: &[u64],
-    base: &mut [u64],
-    work: &mut [u64],
-    room: &mut [u32],
-) -> Result<(), Refusal>
-    requires { day_limit ≤ length room.old }
-    ensures refusal { refusal_of result ≡ first_cause (staggered_bits_causes setting choice flows.now words.now base.old work.old) }
-    ensures base_list { base.new ≡ base_bits_leaves setting choice flows.now words.now base.old work.old }
-    ensures work_list { work.new ≡ work_bits_leaves setting choice flows.now words.now base.old work.old }
-    ensures error { StaggeredPromised (refusal_of result) setting choice (days_of flows.now words.now) }
-{
-    let form = Days::of(flows, words, room);
-    form.answer(staggered::staggered(setting, choice, form.days, base, work))
+    over_form(
+        flows,
+        words,
+        base,
+        work,
+        |days, base, work| staggered::staggered(setting, choice, days, base, work),
+    )
 }
 
 // Totals over the days with a base value, and the base flow index.
 pub fn totals(flows: &[u32], words: &[u64], base: &[u64]) -> Result<Totals, Refusal>
     ensures answer { outcome_of result ≡ totals_bits_outcome flows.now words.now base.now }
 {
-    let mut room = [0u32; DAY_LIMIT];
-    totals_in(flows, words, base, &mut room)
-}
-
-// The same, with room for a day list.
-fn totals_in(
-    flows: &[u32],
-    words: &[u64],
-    base: &[u64],
-    room: &mut [u32],
-) -> Result<Totals, Refusal>
-    requires { day_limit ≤ length room.old }
-    ensures answer { outcome_of result ≡ totals_bits_outcome flows.now words.now base.now }
-{
-    let form = Days::of(flows, words, room);
-    form.answer(totals::total(form.days, base))
+    over_form(
+        flows,
+        words,
+        &mut [],
+        &mut [(); 0],
+        |days, _, _| totals::total(days, base),
+    )
 }
 
 // Recession ratios, with every counted limb listed.
@@ -152,25 +104,13 @@ pub fn ratios(
     ensures answer { outcome_of result ≡ ratio_bits_outcome shortest flows.now words.now base.now limbs.old }
     ensures limb_list { limbs.new ≡ ratio_bits_leaves shortest flows.now words.now base.now limbs.old }
 {
-    let mut room = [0u32; DAY_LIMIT];
-    ratios_in(shortest, flows, words, base, limbs, &mut room)
-}
-
-// The same, with room for a day list.
-fn ratios_in(
-    shortest: u32,
-    flows: &[u32],
-    words: &[u64],
-    base: &[u64],
-    limbs: &mut [u32],
-    room: &mut [u32],
-) -> Result<Statistics, Refusal>
-    requires { day_limit ≤ length room.old }
-    ensures answer { outcome_of result ≡ ratio_bits_outcome shortest flows.now words.now base.now limbs.old }
-    ensures limb_list { limbs.new ≡ ratio_bits_leaves shortest flows.now words.now base.now limbs.old }
-{
-    let form = Days::of(flows, words, room);
-    form.answer(recession::ratios(shortest, form.days, base, limbs))
+    over_form(
+        flows,
+        words,
+        &mut [],
+        limbs,
+        |days, _, limbs| recession::ratios(shortest, days, base, limbs),
+    )
 }
 
 // BFImax from a dry spell of the river itself.
@@ -186,25 +126,11 @@ pub fn bfimax(
     ensures base_list { base.new ≡ bfimax_bits_leaves (spell_of last_day duration p) flows.now words.now base.old }
     ensures error { BfimaxPromised (outcome_of result) p (spell last_day duration (days_of flows.now words.now)) }
 {
-    let mut room = [0u32; DAY_LIMIT];
-    bfimax_in(last_day, duration, p, flows, words, base, &mut room)
-}
-
-// The same, with room for a day list.
-fn bfimax_in(
-    last_day: u32,
-    duration: u32,
-    p: u32,
-    flows: &[u32],
-    words: &[u64],
-    base: &mut [u64],
-    room: &mut [u32],
-) -> Result<u32, Refusal>
-    requires { day_limit ≤ length room.old }
-    ensures answer { outcome_of result ≡ bfimax_bits_outcome (spell_of last_day duration p) flows.now words.now base.old }
-    ensures base_list { base.new ≡ bfimax_bits_leaves (spell_of last_day duration p) flows.now words.now base.old }
-    ensures error { BfimaxPromised (outcome_of result) p (spell last_day duration (days_of flows.now words.now)) }
-{
-    let form = Days::of(flows, words, room);
-    form.answer(bfimax::bfimax(last_day, duration, p, form.days, base))
+    over_form(
+        flows,
+        words,
+        base,
+        &mut [(); 0],
+        |days, base, _| bfimax::bfimax(last_day, duration, p, days, base),
+    )
 }

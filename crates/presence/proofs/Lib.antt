@@ -2,6 +2,6 @@ pub mod Sentences
 mod Examples
 mod Bits
 mod Loops
-mod Under
+mod Zeros
 mod Words
 mod Calls

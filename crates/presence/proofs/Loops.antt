@@ -24,9 +24,9 @@ use Rattle.std.proofs.lemmas.List.Sums.{sum_by_push}
 use Rattle.std.proofs.lemmas.Simd.{mask_l-mod}
 use Rattle.series.specs.Units.{flow_limit, missing_mark, is_missing}
 use Rattle.series.proofs.Views.{neither_of}
-use Rattle.presence.specs.Form.{is_one, is_present, word_count, days_from, days_of, flows_of, words_for, words_of, any_one, one_past_end, flow_under_zero, number_under_one, is_invalid_form, is_invalid_flow}
+use Rattle.presence.specs.Form.{is_one, is_present, word_count, flows_of, word_of, words_for, words_of, any_one, one_past_end, flow_under_zero, number_under_one, is_invalid_form, is_invalid_flow}
 use Rattle.presence.specs.Call.{ones_in}
-use Rattle.presence.specs.Private.{word_of, any_above}
+use Rattle.presence.specs.Private.{any_above}
 
 -- a search: it has found something so far, or finds it in what is left
 pub found_more : (found here more : Bool) {whole rest : Bool} → whole ≡ (found || rest) → rest ≡ (here || more) → whole ≡ ((found || here) || more)
@@ -69,20 +69,6 @@ flow_turn days flows i e h k = rw (add-one, take-suc-set, append_snoc) (rw (drop
 pub flow_end : (days flows : List ℕ) (i : ℕ) → take i flows ++ flows_of (drop i days) ≡ flows_of days → length days ≤ i → length flows ≤ i → flows ≡ flows_of days
 unfolding flows_of
 flow_end days flows i e h k = sym (rw (drop_of_length-le days h, append-nil) (take_all i flows k)) ∙ e
-
--- the days of flows and words
-pub day_start : (flows words days : List ℕ) → take 0 days ++ days_from words 0 (drop 0 flows) ≡ days_of flows words
-unfolding days_of
-day_start flows words days = refl
-
-pub day_turn : (flows words days : List ℕ) (i : ℕ) → take i days ++ days_from words i (drop i flows) ≡ days_of flows words → i < length flows → i < length days
-    → take (i + 1) (set days i (cond (is_one words i) (get_or flows i 0) missing_mark)) ++ days_from words (i + 1) (drop (i + 1) flows) ≡ days_of flows words
-unfolding days_from
-day_turn flows words days i e h k = rw (add-one, take-suc-set, append_snoc) (rw (drop-cons flows i 0) at e)
-
-pub day_end : (flows words days : List ℕ) (i : ℕ) → take i days ++ days_from words i (drop i flows) ≡ days_of flows words → length flows ≤ i → length days ≤ i → days ≡ days_of flows words
-unfolding days_from
-day_end flows words days i e h k = sym (rw (drop_of_length-le flows h, append-nil) (take_all i days k)) ∙ e
 
 -- a one past the end stands in the last word, above its last day
 low_bit : (q : ℕ) → (eqb (q % 2) 1 || not (eqb (q / 2) 0)) ≡ not (eqb q 0)
@@ -130,23 +116,20 @@ pub ones_end : (words : List ℕ) (i : ℕ) → length words ≤ i → ones_in (
 ones_end words i h = ap ones_in (take_all i words h)
 
 -- a word of numbers, from the last to the first
-module _ (none : ℕ) (numbers : List ℕ) where
-  pub bit_start : (i : ℕ) → i ≡ length numbers → word_of none (drop i numbers) ≡ 0
-  unfolding word_of
-  bit_start i e = let h : length numbers ≤ i = omega arith in rw (drop_of_length-le numbers h) refl
+pub bit_start : (days : List ℕ) (i : ℕ) → i ≡ length days → word_of (drop i days) ≡ 0
+bit_start days i e = let h : length days ≤ i = omega arith in rw (drop_of_length-le days h) refl
 
-  pub bit_turn : (i k : ℕ) → suc k ≡ i → k < length numbers → word_of none (drop k numbers) ≡ 2 * word_of none (drop i numbers) + cond (not (eqb (get_or numbers k 0) none)) 1 0
-  unfolding word_of
-  bit_turn i k e h =
-      let rest : word_of none (drop i numbers) ≡ word_of none (drop (suc k) numbers) = ap (λ n. word_of none (drop n numbers)) (sym e) in
-      rw (drop-cons numbers k 0, rest) (omega arith)
+pub bit_turn : (days : List ℕ) (i k : ℕ) → suc k ≡ i → k < length days → word_of (drop k days) ≡ 2 * word_of (drop i days) + cond (not (eqb (get_or days k 0) missing_mark)) 1 0
+unfolding is_missing
+bit_turn days i k e h =
+    let rest : word_of (drop i days) ≡ word_of (drop (suc k) days) = ap (λ n. word_of (drop n days)) (sym e) in
+    rw (drop-cons days k 0, rest) (omega arith)
 
-  pub bit_small : (i : ℕ) → length numbers ≤ 64 → 0 < i → word_of none (drop i numbers) < 2 ^ 63
-  unfolding word_of
-  bit_small i h k =
-      let ms = map (λ n. not (eqb n none)) (drop i numbers) in
-      let few : length ms ≤ 63 = omega (arith, length-map (drop i numbers) (λ n. not (eqb n none)), length-drop i numbers) in
-      omega (arith, mask_l-mod ms 63 few)
+pub bit_small : (days : List ℕ) (i : ℕ) → length days ≤ 64 → 0 < i → word_of (drop i days) < 2 ^ 63
+bit_small days i h k =
+    let ms = map is_present (drop i days) in
+    let few : length ms ≤ 63 = omega (arith, length-map (drop i days) is_present, length-drop i days) in
+    omega (arith, mask_l-mod ms 63 few)
 
 -- the words of days
 pub part_of : (days : List ℕ) (start end : ℕ) → end ≡ min (length days) (start + 64) → take (end - start) (drop start days) ≡ take 64 (drop start days)
@@ -158,9 +141,9 @@ pub word_start : (days words : List ℕ) → length words ≡ word_count (length
 unfolding words_of
 word_start days words e = let z : length words - 0 ≡ word_count (length days) = omega arith in rw z refl
 
-pub word_turn : (days words : List ℕ) (k start end v : ℕ) → take k words ++ words_for (length words - k) (drop (64 * k) days) ≡ words_of days → k < length words → start ≡ k * 64 → end ≡ min (length days) (start + 64) → v ≡ word_of missing_mark (take (end - start) (drop start days))
+pub word_turn : (days words : List ℕ) (k start end v : ℕ) → take k words ++ words_for (length words - k) (drop (64 * k) days) ≡ words_of days → k < length words → start ≡ k * 64 → end ≡ min (length days) (start + 64) → v ≡ word_of (take (end - start) (drop start days))
     → take (k + 1) (set words k v) ++ words_for (length (set words k v) - (k + 1)) (drop (64 * (k + 1)) days) ≡ words_of days
-unfolding words_for word_of is_missing
+unfolding words_for
 word_turn days words k start end v e h s f w =
     let more : length words - k ≡ suc (length (set words k v) - (k + 1)) = omega (arith, length-set words k v) in
     let at : start ≡ 64 * k = omega arith in

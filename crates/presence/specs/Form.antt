@@ -33,9 +33,12 @@ flows_of days = map (λ d. cond (is_missing d) 0 d) days
 abbrev pub is_present : (day : ℕ) → Bool
 is_present day = not (is_missing day)
 
+abbrev pub word_of : (days : List ℕ) → ℕ
+word_of days = mask_l (map is_present days)
+
 unfoldable pub words_for : (count : ℕ) → (days : List ℕ) → List ℕ
 words_for zero days = []
-words_for (suc n) days = mask_l (map is_present (take 64 days)) ∷ words_for n (drop 64 days)
+words_for (suc n) days = word_of (take 64 days) ∷ words_for n (drop 64 days)
 
 unfoldable pub words_of : (days : List ℕ) → List ℕ
 unfolding words_for

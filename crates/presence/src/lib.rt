@@ -2,12 +2,13 @@
 // forms convert into each other.
 #![tactic(auto)]
 
-ghost use Rattle.std.specs.Prelude.{◌≡◌, ◌<◌, ◌≤◌, ◌/◌, [], ◌∷◌, cond, eqb, not, bit_or, length};
-ghost use Rattle.series.specs.Units.{missing_mark, is_missing};
+ghost use Rattle.std.specs.Prelude.{◌≡◌, ◌≤◌, [], ◌∷◌, cond, length};
+ghost use Rattle.std.specs.Int.{w64, trailing_ones};
+ghost use Rattle.series.specs.Units.{is_missing};
 ghost use Rattle.series.specs.Causes.{outcome_of, Decides};
-ghost use Rattle.presence.specs.Form.{word_count, days_of, flows_of, words_of, wrong_count, one_past_end, flow_under_zero, is_invalid_form};
+ghost use Rattle.presence.specs.Form.{word_of, word_count, days_of, flows_of, words_of, wrong_count, one_past_end, flow_under_zero, is_invalid_form};
 ghost use Rattle.presence.specs.Call.{ones_in, to_bits_causes, to_bits_outcome, flows_left, words_left, from_bits_causes, from_bits_outcome, days_left};
-ghost use Rattle.presence.specs.Private.{word_of, any_above};
+ghost use Rattle.presence.specs.Private.{any_above};
 
 use series::{FLOW_LIMIT, MISSING, Refusal, refuse_if};
 
@@ -43,34 +44,43 @@ fn one_past_end(days: usize, words: &[u64]) -> bool
     days % WORD != 0 && words[days / WORD] >> (days % WORD) != 0
 }
 
-// The word of up to 64 numbers, the first in its lowest bit: a one for each but those that stand for none.
+// The word of up to 64 days, the first in its lowest bit.
 #[tactic(auto, using(crate::proofs::Loops::bit_start, crate::proofs::Loops::bit_turn, crate::proofs::Loops::bit_small))]
-fn word(numbers: &[u32], none: u32) -> u64
-    requires { length numbers.now ≤ 64 }
-    ensures { result ≡ word_of none numbers.now }
+fn word(days: &[u32]) -> u64
+    requires { length days.now ≤ 64 }
+    ensures { result ≡ word_of days.now }
 {
     let mut word = 0;
     // Kept: by index, since what `iter().rev()` has left is no part of the list that a law of words speaks of.
-    for i in (0..numbers.len()).rev() {
-        word = 2 * word + u64::from(numbers[i] != none);
+    for i in (0..days.len()).rev() {
+        word = 2 * word + u64::from(days[i] != MISSING);
     }
     word
 }
 
-// A flow stands under a zero of a word: the ones of the flows that are not 0 are not all in it.
-#[tactic(auto, using(crate::proofs::Under::full_word))]
+// The place of the lowest zero of a word; 64 where there is none.
+fn lowest_zero(word: u64) -> usize
+    ensures { result ≡ trailing_ones w64 word }
+{
+    word.trailing_ones() as usize
+}
+
+// A flow stands under a zero of a word.
 fn under_zero(bits: u64, flows: &[u32]) -> bool
     requires { length flows.now ≤ 64 }
-    ensures { result ≡ not (eqb (bit_or (word_of 0 flows.now) bits) bits) }
+    ensures { result ≡ flow_under_zero (bits ∷ []) 0 flows.now }
 {
-    if bits == u64::MAX {
-        return false;
+    let mut found = 0;
+    let mut rest = bits;
+    while lowest_zero(rest) < flows.len() {
+        found |= flows[lowest_zero(rest)];
+        rest |= rest + 1;
     }
-    word(flows, 0) | bits != bits
+    found != 0
 }
 
 // 28: a flow under a zero.
-#[tactic(auto, using(crate::proofs::Under::under_next, crate::proofs::Under::under_end))]
+#[tactic(auto, using(crate::proofs::Words::flows_turn, crate::proofs::Words::flows_end))]
 fn flow_under_zero(words: &[u64], flows: &[u32]) -> bool
     requires { length words.now ≡ word_count (length flows.now) }
     ensures { result ≡ flow_under_zero words.now 0 flows.now }
@@ -113,15 +123,6 @@ fn flow_of(day: u32) -> u32
     if day == MISSING { 0 } else { day }
 }
 
-// The day that a flow under a bit stands for. (A maximum of numbers, so that no branch hangs on a bit.)
-// Kept: `as`, of a bit, where TryFrom would add an error that never comes.
-fn day_under(bit: u64, flow: u32) -> u32
-    requires { bit < 2 }
-    ensures { result ≡ cond (eqb bit 1) flow missing_mark }
-{
-    flow.max(MISSING.wrapping_add(bit as u32))
-}
-
 // The flows of days.
 #[tactic(auto, using(crate::proofs::Loops::flow_turn, crate::proofs::Loops::flow_end))]
 fn put_flows(days: &[u32], flows: &mut [u32])
@@ -142,44 +143,32 @@ fn put_words(days: &[u32], words: &mut [u64])
 {
     for (k, bits) in words.iter_mut().enumerate() {
         let from = k * WORD;
-        *bits = word(&days[from..days.len().min(from + WORD)], MISSING);
+        *bits = word(&days[from..days.len().min(from + WORD)]);
     }
 }
 
-// The days of the flows of a word, day by day.
-#[tactic(auto, using(crate::proofs::Loops::day_start, crate::proofs::Words::bit_turn, crate::proofs::Loops::day_end))]
-fn put_bits(word: u64, flows: &[u32], days: &mut [u32])
-    requires { (length days.old ≡ length flows.now) × (length flows.now ≤ 64) }
-    ensures { days.new ≡ days_of flows.now (word ∷ []) }
+// The mark of a missing day at each zero of a word, from the lowest on.
+fn mark_zeros(word: u64, days: &mut [u32])
+    requires { length days.old ≤ 64 }
+    ensures { days.new ≡ days_of days.old (word ∷ []) }
 {
-    for (i, day) in days.iter_mut().enumerate() {
-        *day = day_under((word >> i) % 2, flows[i]);
+    let mut rest = word;
+    while lowest_zero(rest) < days.len() {
+        days[lowest_zero(rest)] = MISSING;
+        rest |= rest + 1;
     }
 }
 
-// The days of the flows of a word. Where all are present, they are the flows.
-#[tactic(auto, using(crate::proofs::Words::all_present))]
-fn put_word(word: u64, flows: &[u32], days: &mut [u32])
-    requires { (length days.old ≡ length flows.now) × (length flows.now ≤ 64) }
-    ensures { days.new ≡ days_of flows.now (word ∷ []) }
-{
-    if word == u64::MAX {
-        days.copy_from_slice(flows);
-    } else {
-        put_bits(word, flows, days);
-    }
-}
-
-// The days of flows and words.
+// The days of flows, which stand in their place, and words.
 #[tactic(auto, using(crate::proofs::Words::put_start, crate::proofs::Words::put_turn, crate::proofs::Words::put_end))]
-fn put_days(flows: &[u32], words: &[u64], days: &mut [u32])
-    requires { (length days.old ≡ length flows.now) × (length words.now ≡ word_count (length flows.now)) }
-    ensures { days.new ≡ days_of flows.now words.now }
+fn mark_missing(words: &[u64], days: &mut [u32])
+    requires { length words.now ≡ word_count (length days.old) }
+    ensures { days.new ≡ days_of days.old words.now }
 {
     for (k, word) in words.iter().enumerate() {
         let first = k * WORD;
-        let end = flows.len().min(first + WORD);
-        put_word(*word, &flows[first..end], &mut days[first..end]);
+        let end = days.len().min(first + WORD);
+        mark_zeros(*word, &mut days[first..end]);
     }
 }
 
@@ -225,6 +214,7 @@ pub fn from_bits(flows: &[u32], words: &[u64], days: &mut [u32]) -> Result<u32, 
     ensures day_list { days.new ≡ days_left flows.now words.now days.old }
 {
     check_form(flows, words, days)?;
-    put_days(flows, words, days);
+    days.copy_from_slice(flows);
+    mark_missing(words, days);
     Ok(ones(words))
 }

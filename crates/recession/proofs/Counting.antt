@@ -92,7 +92,7 @@ module _ {limb rest before counts : List ℕ} {size : ℕ} (c : Counting limb re
       with_r : (v : ℕ) → get_or counts v 0 + how_many v (r ∷ pair_ratios (drop 1 rest)) ≡ get_or before v 0 + how_many v (pair_ratios limb)
       with_r v = rw (e, of_pair 0 (omega arith), of_pair 1 (omega arith), ← pairs_next rest (omega (arith, c.two))) (c.each v)
 
-      pub counting_room : ((v : ℕ) → get_or before v 0 + how_many v (pair_ratios limb) < 2 ^ 32) → get_or counts r 0 + 1 < 2 ^ 32
+      pub counting_room : ((v : ℕ) → get_or before v 0 + how_many v (pair_ratios limb) < 2 ^ 16) → get_or counts r 0 + 1 < 2 ^ 16
       counting_room f = omega (arith, f r, with_r r, many_here r (pair_ratios (drop 1 rest)) refl)
 
       pub counting_next : length before ≡ 10001 → {next : List ℕ} {same : ℕ} → same ≡ size → next ≡ drop 1 rest → Counting limb next same before (set counts r (get_or counts r 0 + 1))

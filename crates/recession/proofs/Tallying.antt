@@ -36,7 +36,7 @@ module _ {all left next : List Limb} {l : Limb} {before counts : List ℕ} {limb
   head_ratios v = ap (λ ls. how_many v (limb_ratios ls)) e ∙ many_append v (pair_ratios l.flows) (limb_ratios next)
 
   -- the next limb's ratios have room in the histogram
-  pub tallying_room : ((v : ℕ) → get_or before v 0 ≡ 0) → length (limb_ratios all) < 2 ^ 32 → (v : ℕ) → get_or counts v 0 + how_many v (pair_ratios l.flows) < 2 ^ 32
+  pub tallying_room : ((v : ℕ) → get_or before v 0 ≡ 0) → length (limb_ratios all) < 2 ^ 16 → (v : ℕ) → get_or counts v 0 + how_many v (pair_ratios l.flows) < 2 ^ 16
   tallying_room zeros fits v = omega (arith, t.each v, head_ratios v, zeros v, many_few v (limb_ratios all))
 
   tail_length : length (limb_ratios left) ≡ length l.flows - 1 + length (limb_ratios next)
@@ -149,7 +149,7 @@ module _ {L : ℕ} {days base : List ℕ} {at : ℕ} {t : Tally} {counts₀ coun
   -- the next limb
   module _ (few : length days ≤ day_limit) {first end : ℕ} (l : LimbAt L days base at first end) where
     -- its ratios have room
-    pub pairs_fit : ((v : ℕ) → get_or counts₀ v 0 ≡ 0) → (v : ℕ) → get_or counts v 0 + how_many v (pair_ratios (run_at days first end).flows) < 2 ^ 32
+    pub pairs_fit : ((v : ℕ) → get_or counts₀ v 0 ≡ 0) → (v : ℕ) → get_or counts v 0 + how_many v (pair_ratios (run_at days first end).flows) < 2 ^ 16
     pairs_fit zeros = tallying_room w.tallying l.next zeros (omega (arith, ratios_few L days base))
 
     -- its number of days has a cell, with room for one more

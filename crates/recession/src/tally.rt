@@ -15,9 +15,9 @@ fn ratio(earlier: u32, later: u32) -> u64
 }
 
 // Counts the ratios of one limb, each at its value.
-fn tally_pairs(limb: &[u32], counts: &mut [u32; 10001])
+fn tally_pairs(limb: &[u32], counts: &mut [u16; 10001])
     requires falling { Falling limb.now }
-    requires by_index { (v : ℕ) → get_or counts.old v 0 + how_many v (pair_ratios limb.now) < 2 ^ 32 }
+    requires by_index { (v : ℕ) → get_or counts.old v 0 + how_many v (pair_ratios limb.now) < 2 ^ 16 }
     ensures { Added (pair_ratios limb.now) counts.old counts.new }
 {
     for pair in limb.windows(2) {
@@ -39,7 +39,7 @@ pub(crate) struct Tally {
 // starts. (A limb has at least 2 days.) Refused where a day is invalid.
 pub(crate) fn tally_limbs(
     limbs: &Limbs,
-    counts: &mut [u32; 10001],
+    counts: &mut [u16; 10001],
     lengths: &mut [u16; 36526],
     firsts: &mut [u16; 18263],
 ) -> Result<Tally, Refusal>
@@ -71,14 +71,14 @@ pub(crate) fn tally_limbs(
 
 // The value of a rank, counted from 1, among the `count` ratios of a histogram: found by cumulative counts, from the
 // largest value down, since a recession's ratios lie close to it.
-pub(crate) fn at_rank(counts: &[u32; 10001], count: u32, rank: u32) -> u32
+pub(crate) fn at_rank(counts: &[u16; 10001], count: u32, rank: u32) -> u32
     requires { (0 < rank) × (rank ≤ count) × (count ≡ sum counts.now) }
     ensures { AtRank counts.now rank result }
 {
     let above = count - rank;
     let mut reached = 0;
     for (v, here) in counts.iter().enumerate().skip(1).rev() {
-        reached += here;
+        reached += u32::from(*here);
         if above < reached {
             return v as u32;
         }
