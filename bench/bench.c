@@ -19,7 +19,7 @@ static const uint32_t sizes[SIZES] = {1000, 10000, MOST};
 enum input { FLOWS, GAPS, MIXED, LATE, SUMMERS, LENGTHS, TWOS };
 enum call {
     READ, FILTER, STEP, LINE, TOTALS, RECESSION, BFIMAX, STAGGERED, HALF_LIFE, METER, TO_BITS, FROM_BITS, FILTER_BITS,
-    TOTALS_BITS, RECESSION_BITS
+    TOTALS_BITS, RECESSION_BITS, FILTER_FROM
 };
 
 static const struct job {
@@ -68,6 +68,7 @@ static const struct job {
     {"filter over bits, method 1", FILTER_BITS, GAPS, 1, 9250, 0, 0, 1},
     {"totals over bits, few gaps", TOTALS_BITS, GAPS, 0, 0, 0, 0, 0},
     {"ratios over bits, L 2", RECESSION_BITS, GAPS, 2, 0, 0, 0, 0},
+    {"filter from start, method 1", FILTER_FROM, GAPS, 1, 9250, 0, 0, 1},
 };
 enum { JOBS = sizeof jobs / sizeof *jobs };
 
@@ -235,6 +236,10 @@ static uintptr_t stack_before;
         case FILTER:                                                                                                   \
             (r)->answer = prefix##filter((job)->first, (job)->p, (job)->q, (job)->s, (job)->passes, days, count,       \
                                          (r)->base, count);                                                            \
+            break;                                                                                                     \
+        case FILTER_FROM: /* start 0 */                                                                                \
+            (r)->answer = prefix##filter_from((job)->first, (job)->p, (job)->q, (job)->s, (job)->passes, 0, days,      \
+                                              count, (r)->base, count);                                                \
             break;                                                                                                     \
         case STEP:                                                                                                     \
             for (uint32_t t = 0; t < count; t++)                                                                       \

@@ -111,7 +111,8 @@ enum baseflow_answer {
     BASEFLOW_BAD_WORK = 25,        /* a work list that is not N times as long as the day list */
     BASEFLOW_BAD_READING = 26,     /* a reading that is not finite, or below zero */
     BASEFLOW_READING_TOO_LARGE = 27, /* a reading of more than 10,000,000 litres a second */
-    BASEFLOW_BAD_PRESENCE = 28     /* presence words that are too many or too few, a one past the last day, or a flow under a zero */
+    BASEFLOW_BAD_PRESENCE = 28,    /* presence words that are too many or too few, a one past the last day, or a flow under a zero */
+    BASEFLOW_START_TOO_HIGH = 29   /* a start that is given lies above 1000 * the first present flow */
 };
 
 /*
@@ -135,6 +136,17 @@ uint32_t baseflow_read(const uint8_t *bytes, size_t bytes_len, uint32_t *days, s
  */
 uint32_t baseflow_filter(uint32_t method, uint32_t p, uint32_t q, int32_t s, uint32_t passes, const uint32_t *days,
                          size_t days_len, uint64_t *base, size_t base_len);
+
+/*
+ * The same from a start that is given, in thousandths: the base value of pass 1 on the first present day, in place of the
+ * usual one (500 * its flow; in method 5 near(9 * q * flow / 100)). No other stretch, no later pass and no daily step knows
+ * of it. It may be 0 to 1000 * that day's flow; where no day is present it may be anything, and has no effect.
+ * Refuses: 11, 12, 13, 9, 14, 10, 29.
+ * On 0: as baseflow_filter. From a lower start the base flow is higher on no day, and the difference dies out: see
+ * docs/GUARANTEES.md.
+ */
+uint32_t baseflow_filter_from(uint32_t method, uint32_t p, uint32_t q, int32_t s, uint32_t passes, uint64_t start,
+                              const uint32_t *days, size_t days_len, uint64_t *base, size_t base_len);
 
 /*
  * One pass of a filter for one day: for a box that separates as it measures. Steps from the fresh state over a day list
@@ -281,6 +293,9 @@ uint32_t baseflow_from_bits(const uint32_t *flows, size_t flows_len, const uint6
 uint32_t baseflow_filter_bits(uint32_t method, uint32_t p, uint32_t q, int32_t s, uint32_t passes, const uint32_t *flows,
                               size_t flows_len, const uint64_t *words, size_t words_len, uint64_t *base,
                               size_t base_len);
+uint32_t baseflow_filter_from_bits(uint32_t method, uint32_t p, uint32_t q, int32_t s, uint32_t passes, uint64_t start,
+                                   const uint32_t *flows, size_t flows_len, const uint64_t *words, size_t words_len,
+                                   uint64_t *base, size_t base_len);
 uint32_t baseflow_line_bits(uint32_t block_days, uint32_t factor, const uint32_t *flows, size_t flows_len,
                             const uint64_t *words, size_t words_len, uint64_t *base, size_t base_len);
 uint32_t baseflow_staggered_bits(uint32_t block_days, uint32_t factor, uint32_t choice, const uint32_t *flows,

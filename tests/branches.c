@@ -118,6 +118,50 @@
     X(FILTER_GAPS, "filter", "accepted, several stretches")                                                            \
     X(FILTER_CAPPED, "filter", "accepted, base held to the flow")                                                      \
     X(FILTER_MOST_DAYS, "filter", "accepted, 36,525 days")                                                             \
+    X(FROM_11, "filter_from", "refused 11")                                                                            \
+    X(FROM_12, "filter_from", "refused 12")                                                                            \
+    X(FROM_13, "filter_from", "refused 13")                                                                            \
+    X(FROM_9, "filter_from", "refused 9")                                                                              \
+    X(FROM_14_SHORT, "filter_from", "refused 14, base short")                                                          \
+    X(FROM_14_LONG, "filter_from", "refused 14, base long")                                                            \
+    X(FROM_14_START, "filter_from", "refused 14, where 29 holds too")                                                  \
+    X(FROM_10, "filter_from", "refused 10, where 29 does not hold")                                                    \
+    X(FROM_10_START, "filter_from", "refused 10, where 29 holds too")                                                  \
+    X(FROM_29_NEXT, "filter_from", "refused 29, 1000 x the first flow + 1")                                            \
+    X(FROM_29_FAR, "filter_from", "refused 29, start above 10^10")                                                     \
+    X(FROM_29_MOST, "filter_from", "refused 29, start 2^64 - 1")                                                       \
+    X(FROM_29_BITS, "filter_from", "refused 29, the lowest 32 bits not above")                                         \
+    X(FROM_29_DRY, "filter_from", "refused 29, first flow 0")                                                          \
+    X(FROM_29_GAP, "filter_from", "refused 29, first day missing")                                                     \
+    X(FROM_29_LATER, "filter_from", "refused 29, taken by a later stretch")                              \
+    X(FROM_1_1, "filter_from", "method 1, one pass")                                                                   \
+    X(FROM_1_2, "filter_from", "method 1, two passes")                                                                 \
+    X(FROM_1_3, "filter_from", "method 1, three passes")                                                               \
+    X(FROM_2, "filter_from", "method 2")                                                                               \
+    X(FROM_3, "filter_from", "method 3")                                                                               \
+    X(FROM_4, "filter_from", "method 4")                                                                               \
+    X(FROM_5, "filter_from", "method 5")                                                                               \
+    X(FROM_6, "filter_from", "method 6")                                                                               \
+    X(FROM_7, "filter_from", "method 7")                                                                               \
+    X(FROM_0, "filter_from", "accepted, start 0, first flow above 0")                                                  \
+    X(FROM_WHOLE, "filter_from", "accepted, start 1000 x the first flow")                                              \
+    X(FROM_LARGE, "filter_from", "accepted, start above 2^32")                                                         \
+    X(FROM_DRY, "filter_from", "accepted, first flow 0")                                                               \
+    X(FROM_NO_DAY, "filter_from", "accepted, no day")                                                                  \
+    X(FROM_ALL_MISSING, "filter_from", "accepted, all missing")                                                        \
+    X(FROM_ALL_MISSING_FAR, "filter_from", "accepted, all missing, start above 10^10")                                 \
+    X(FROM_GAP, "filter_from", "accepted, first day missing")                                                          \
+    X(FROM_GAPS, "filter_from", "accepted, several stretches")                                                         \
+    X(FROM_ABOVE_LATER, "filter_from", "accepted, above a later first flow")                                 \
+    X(FROM_ONE_DAY, "filter_from", "accepted, first stretch of one day")                                               \
+    X(FROM_CAPPED, "filter_from", "accepted, the day after held to the flow")                                          \
+    X(FROM_AT_ZERO, "filter_from", "method 7, the day after kept at zero")                                             \
+    X(FROM_SEEN, "filter_from", "accepted, seen up to the stretch's last day")                                         \
+    X(FROM_FORGOTTEN, "filter_from", "accepted, forgotten by then")                                                    \
+    X(FROM_2_SEEN, "filter_from", "two passes, seen on the first day")                                                 \
+    X(FROM_2_FORGOTTEN, "filter_from", "two passes, not seen on any day")                                              \
+    X(FROM_3_LOWER, "filter_from", "three passes, first day below the start")                                          \
+    X(FROM_MOST_DAYS, "filter_from", "accepted, 36,525 days")                                                          \
     X(STEP_11, "step", "refused 11")                                                                                   \
     X(STEP_12, "step", "refused 12")                                                                                   \
     X(STEP_12_S_LOW, "step", "refused 12, s low")                                                                      \
@@ -454,7 +498,17 @@
     OVER_BITS(X, STAGGERED_BITS, "staggered_bits")                                                                     \
     X(STAGGERED_BITS_16, "staggered_bits", "refused 16, where 28 holds too")                                           \
     X(STAGGERED_BITS_25, "staggered_bits", "refused 25, where 28 holds too")                                           \
-    X(STAGGERED_BITS_17, "staggered_bits", "refused 17")
+    X(STAGGERED_BITS_17, "staggered_bits", "refused 17")                                                               \
+    OVER_BITS(X, FILTER_FROM_BITS, "filter_from_bits")                                                                 \
+    X(FILTER_FROM_BITS_11, "filter_from_bits", "refused 11, where 28 holds too")                                       \
+    X(FILTER_FROM_BITS_12, "filter_from_bits", "refused 12, where 28 holds too")                                       \
+    X(FILTER_FROM_BITS_13, "filter_from_bits", "refused 13, where 28 holds too")                                       \
+    X(FILTER_FROM_BITS_29, "filter_from_bits", "refused 29")                                                           \
+    X(FILTER_FROM_BITS_28_START, "filter_from_bits", "refused 28, where 29 holds too")                                 \
+    X(FILTER_FROM_BITS_10_START, "filter_from_bits", "refused 10, where 29 holds too")                                 \
+    X(FILTER_FROM_BITS_29_GAP, "filter_from_bits", "refused 29, first day absent")                                     \
+    X(FILTER_FROM_BITS_ABSENT, "filter_from_bits", "accepted, all absent, start above 10^10")                          \
+    X(FILTER_FROM_BITS_GAP, "filter_from_bits", "accepted, first day absent, not start 0")
 
 #define AS_NUMBER(id, call, name) id,
 #define AS_ROW(id, call, name) {call, name, 0},
@@ -742,6 +796,110 @@ static void count_filter(const struct test_case *c, uint32_t answer, const uint6
         hit_if(count_stretches(c) > 1, FILTER_GAPS);
         hit_if(any_at_flow(c, base), FILTER_CAPPED);
         hit_if(c->days_len == MOST_DAYS, FILTER_MOST_DAYS);
+    }
+}
+
+// ---- a filter from a start
+
+static int holds_29(const struct test_case *c)
+{
+    size_t t = first_present(c);
+    return t < c->days_len && c->start > 1000 * (uint64_t)c->days[t];
+}
+
+// Whether a stretch behind the first one begins with a flow that the start is not above (1), or with one that it is (0).
+static int begins_later(const struct test_case *c, int not_above)
+{
+    for (size_t t = first_present(c) + 1; t < c->days_len; t++)
+        if (c->days[t] != MISSING && c->days[t - 1] == MISSING &&
+            (c->start <= 1000 * (uint64_t)c->days[t]) == not_above)
+            return 1;
+    return 0;
+}
+
+static void count_29(const struct test_case *c)
+{
+    size_t first = first_present(c);
+    uint64_t whole = 1000 * (uint64_t)c->days[first];
+    hit_if(c->start == whole + 1, FROM_29_NEXT);
+    hit_if(c->start > 10000000000, FROM_29_FAR);
+    hit_if(c->start == UINT64_MAX, FROM_29_MOST);
+    hit_if((uint32_t)c->start <= whole, FROM_29_BITS);
+    hit_if(whole == 0, FROM_29_DRY);
+    hit_if(first > 0, FROM_29_GAP);
+    hit_if(begins_later(c, 1), FROM_29_LATER);
+}
+
+// How long the start is seen: where the base list is not that of the usual start.
+static void count_seen(const struct test_case *c, const uint64_t *base)
+{
+    static uint64_t usual[ROOM_DAYS];
+    size_t first = first_present(c), last = first, same = 0;
+    while (last + 1 < c->days_len && c->days[last + 1] != MISSING)
+        last++;
+    reference_filter(c->method, c->p, c->q, c->s, c->passes, c->days, c->days_len, usual, c->days_len);
+    while (same < c->days_len && base[same] == usual[same])
+        same++;
+    hit_if(first == last, FROM_ONE_DAY);
+    hit_if(first < last && c->passes == 1 && base[last] != usual[last], FROM_SEEN);
+    hit_if(base[first] != usual[first] && base[last] == usual[last], FROM_FORGOTTEN);
+    hit_if(c->passes == 2 && base[first] != usual[first], FROM_2_SEEN);
+    hit_if(c->passes == 2 && c->start != 500 * (uint64_t)c->days[first] && same == c->days_len, FROM_2_FORGOTTEN);
+    hit_if(c->passes == 3 && base[first] < c->start, FROM_3_LOWER);
+    hit_if(first < last && c->passes == 1 && base[last] > 0 && base[first + 1] == 1000 * (uint64_t)c->days[first + 1],
+           FROM_CAPPED);
+    hit_if(first < last && c->method == 7 && side_of(c, c->start, c->days[first], c->days[first + 1]) < 0,
+           FROM_AT_ZERO);
+}
+
+static void count_started(const struct test_case *c, const uint64_t *base)
+{
+    size_t first = first_present(c);
+    hit(c->method == 1 ? behind(FROM_1_1, c->passes - 1) : behind(FROM_2, c->method - 2));
+    hit_if(c->days_len == MOST_DAYS, FROM_MOST_DAYS);
+    if (first == c->days_len) {
+        hit(first == 0 ? FROM_NO_DAY : FROM_ALL_MISSING);
+        hit_if(first > 0 && c->start > 10000000000, FROM_ALL_MISSING_FAR);
+        return;
+    }
+    uint64_t whole = 1000 * (uint64_t)c->days[first];
+    hit_if(c->start == 0 && whole > 0, FROM_0);
+    hit_if(c->start == whole && whole > 0, FROM_WHOLE);
+    hit_if(c->start > UINT32_MAX, FROM_LARGE);
+    hit_if(whole == 0, FROM_DRY);
+    hit_if(first > 0, FROM_GAP);
+    hit_if(count_stretches(c) > 1, FROM_GAPS);
+    hit_if(begins_later(c, 0), FROM_ABOVE_LATER);
+    count_seen(c, base);
+}
+
+static void count_filter_from(const struct test_case *c, uint32_t answer, const uint64_t *base)
+{
+    switch (answer) {
+    case 11:
+        hit(FROM_11);
+        break;
+    case 12:
+        hit(FROM_12);
+        break;
+    case 13:
+        hit(FROM_13);
+        break;
+    case 9:
+        hit(FROM_9);
+        break;
+    case 14:
+        hit(c->base_len < c->days_len ? FROM_14_SHORT : FROM_14_LONG);
+        hit_if(holds_29(c), FROM_14_START);
+        break;
+    case 10:
+        hit(holds_29(c) ? FROM_10_START : FROM_10);
+        break;
+    case 29:
+        count_29(c);
+        break;
+    default:
+        count_started(c, base);
     }
 }
 
@@ -1587,6 +1745,20 @@ static void count_from_bits(const struct test_case *c, uint32_t answer, uint32_t
     }
 }
 
+// A start over flows and words: the first day whose bit is one says whether 29 holds.
+static void count_bits_start(const struct test_case *c, uint32_t answer)
+{
+    size_t ones = c->flows_len < 64 * c->words_len ? c->flows_len : 64 * c->words_len, first = 0;
+    while (first < ones && !bit_of(c, first))
+        first++;
+    int above = first < ones && c->start > 1000 * (uint64_t)c->flows[first];
+    hit_if(answer == 28 && above, FILTER_FROM_BITS_28_START);
+    hit_if(answer == 10 && above, FILTER_FROM_BITS_10_START);
+    hit_if(answer == 29 && first > 0, FILTER_FROM_BITS_29_GAP);
+    hit_if(answer == 0 && first == c->flows_len && first > 0 && c->start > 10000000000, FILTER_FROM_BITS_ABSENT);
+    hit_if(answer == 0 && 0 < first && first < ones && c->start > 0, FILTER_FROM_BITS_GAP);
+}
+
 // The refusals that a call over presence bits has from its sister: before 28, where that holds too, or behind 10.
 static void count_over_bits(const struct test_case *c, uint32_t answer)
 {
@@ -1600,8 +1772,11 @@ static void count_over_bits(const struct test_case *c, uint32_t answer)
         {RECESSION_BITS_9, RECESSION_BITS_18, {18}, {20, 19, 22}},
         {BFIMAX_BITS_9, BFIMAX_BITS_12, {12, 23}, {24, 21}},
         {STAGGERED_BITS_9, STAGGERED_BITS_16, {16, 25}, {17}},
+        {FILTER_FROM_BITS_9, FILTER_FROM_BITS_11, {11, 12, 13}, {29}},
     };
     size_t i = c->call - FILTER_BITS;
+    if (c->call == FILTER_FROM_BITS)
+        count_bits_start(c, answer);
     if (counts_over_bits(c, answer, c->base_len, calls[i].nine))
         return;
     struct bits_view view = view_bits(c);
@@ -1621,6 +1796,9 @@ void count_branch(const struct test_case *c, uint32_t answer, const struct outs 
         break;
     case FILTER:
         count_filter(c, answer, base);
+        break;
+    case FILTER_FROM:
+        count_filter_from(c, answer, base);
         break;
     case STEP:
         count_step(c, answer);

@@ -27,9 +27,9 @@ enum list { BYTES, DAYS, BASE, LIMBS, WORK, FLOWS, WORDS, LISTS };
 enum { GUARD = 64, GUARD_BYTE = 0x5a };
 
 static const char *const call_names[CALLS] = {
-    "read", "filter", "step", "steps", "line", "totals", "recession", "bfimax", "staggered", "half_life", "meter",
-    "to_bits", "from_bits", "filter_bits", "line_bits", "totals_bits", "recession_bits", "bfimax_bits",
-    "staggered_bits",
+    "read", "filter", "filter_from", "step", "steps", "line", "totals", "recession", "bfimax", "staggered", "half_life",
+    "meter", "to_bits", "from_bits", "filter_bits", "line_bits", "totals_bits", "recession_bits", "bfimax_bits",
+    "staggered_bits", "filter_from_bits",
 };
 static const char *const list_names[LISTS] = {"bytes", "days", "base", "limbs", "work", "flows", "words"};
 static const size_t widths[LISTS] = {1, 4, 8, 4, 8, 4, 8};
@@ -70,7 +70,8 @@ static int may_write(enum call of, enum list list)
 {
     enum call call = sister_of(of);
     return ((call == READ || call == FROM_BITS) && list == DAYS) || (call == RECESSION && list == LIMBS) ||
-           ((call == FILTER || call == LINE || call == BFIMAX || call == STAGGERED) && list == BASE) ||
+           ((call == FILTER || call == FILTER_FROM || call == LINE || call == BFIMAX || call == STAGGERED) &&
+            list == BASE) ||
            (call == STAGGERED && list == WORK) || (call == TO_BITS && (list == FLOWS || list == WORDS));
 }
 
@@ -87,6 +88,9 @@ static int may_write(enum call of, enum list list)
         case FILTER:                                                                                                   \
             return prefix##filter(c->method, c->p, c->q, c->s, c->passes, lists[DAYS], c->days_len, lists[BASE],       \
                                   c->base_len);                                                                        \
+        case FILTER_FROM:                                                                                              \
+            return prefix##filter_from(c->method, c->p, c->q, c->s, c->passes, c->start, lists[DAYS], c->days_len,     \
+                                       lists[BASE], c->base_len);                                                      \
         case LINE:                                                                                                     \
             return prefix##line(c->block_days, c->factor, lists[DAYS], c->days_len, lists[BASE], c->base_len);         \
         case TOTALS:                                                                                                   \
@@ -105,6 +109,9 @@ static int may_write(enum call of, enum list list)
             return prefix##from_bits(BITS, lists[DAYS], c->days_len, &small[0]);                                       \
         case FILTER_BITS:                                                                                              \
             return prefix##filter_bits(c->method, c->p, c->q, c->s, c->passes, BITS, lists[BASE], c->base_len);        \
+        case FILTER_FROM_BITS:                                                                                         \
+            return prefix##filter_from_bits(c->method, c->p, c->q, c->s, c->passes, c->start, BITS, lists[BASE],       \
+                                            c->base_len);                                                              \
         case LINE_BITS:                                                                                                \
             return prefix##line_bits(c->block_days, c->factor, BITS, lists[BASE], c->base_len);                        \
         case TOTALS_BITS:                                                                                              \
@@ -382,6 +389,19 @@ static int shorten(void)
     return better;
 }
 
+static int lower_start(void)
+{
+    int better = 0;
+    const uint64_t start = smallest.start, lower[] = {0, 1, 1000, start / 1000 * 1000, start / 2, start - 1};
+    for (size_t i = 0; i < sizeof lower / sizeof *lower && sister_of(smallest.call) == FILTER_FROM; i++) {
+        copy(&attempt, &smallest);
+        attempt.start = lower[i];
+        if (lower[i] < smallest.start && keep())
+            better = 1;
+    }
+    return better;
+}
+
 static void shrink(const struct test_case *c)
 {
     copy(&smallest, c);
@@ -393,7 +413,7 @@ static void shrink(const struct test_case *c)
             better |= cut_pieces(list, other);
         else
             better |= cut_pieces(list, LISTS) | cut_pieces(other, LISTS);
-        better |= lower_days() | shorten();
+        better |= lower_days() | shorten() | lower_start();
     }
 }
 
@@ -452,10 +472,12 @@ static void print_outs(enum call of, const struct outs *o)
 static void print_arguments(const struct test_case *c)
 {
     enum call call = sister_of(c->call);
-    if (call == FILTER || call == STEP || call == STEPS)
+    if (call == FILTER || call == FILTER_FROM || call == STEP || call == STEPS)
         printf("  method %" PRIu32 ", p %" PRIu32 ", q %" PRIu32 ", s %" PRId32 "\n", c->method, c->p, c->q, c->s);
-    if (call == FILTER)
+    if (call == FILTER || call == FILTER_FROM)
         printf("  passes %" PRIu32 "\n", c->passes);
+    if (call == FILTER_FROM)
+        printf("  start %" PRIu64 "\n", c->start);
     if (call == STEP)
         printf("  day %" PRIu32 "\n", c->day);
     if (call == HALF_LIFE)

@@ -12,14 +12,14 @@ enum { MOST_FLOW = 10000000, MOST_DAYS = 36525, MOST_FIRST_DAY = 99999, MOST_DUR
 
 // STEPS is no call of its own: daily steps from a fresh state over a day list, held to pass 1 of the filter.
 enum call {
-    READ, FILTER, STEP, STEPS, LINE, TOTALS, RECESSION, BFIMAX, STAGGERED, HALF_LIFE, METER, TO_BITS, FROM_BITS,
-    FILTER_BITS, LINE_BITS, TOTALS_BITS, RECESSION_BITS, BFIMAX_BITS, STAGGERED_BITS, CALLS
+    READ, FILTER, FILTER_FROM, STEP, STEPS, LINE, TOTALS, RECESSION, BFIMAX, STAGGERED, HALF_LIFE, METER, TO_BITS,
+    FROM_BITS, FILTER_BITS, LINE_BITS, TOTALS_BITS, RECESSION_BITS, BFIMAX_BITS, STAGGERED_BITS, FILTER_FROM_BITS, CALLS
 };
 
 // The call over days that goes with a call over presence bits; any other call itself.
 static inline enum call sister_of(enum call call)
 {
-    static const enum call sisters[] = {FILTER, LINE, TOTALS, RECESSION, BFIMAX, STAGGERED};
+    static const enum call sisters[] = {FILTER, LINE, TOTALS, RECESSION, BFIMAX, STAGGERED, FILTER_FROM};
     return call < FILTER_BITS ? call : sisters[call - FILTER_BITS];
 }
 
@@ -36,8 +36,9 @@ struct outs {
 // over presence bits has those of its sister, with flows and words in place of the days.
 struct test_case {
     enum call call;
-    uint32_t method, p, q, passes; // FILTER, STEP and STEPS; p also BFIMAX and HALF_LIFE
-    int32_t s;                     // FILTER, STEP and STEPS
+    uint32_t method, p, q, passes; // FILTER, FILTER_FROM, STEP and STEPS; p also BFIMAX and HALF_LIFE
+    int32_t s;                     // FILTER, FILTER_FROM, STEP and STEPS
+    uint64_t start;                // FILTER_FROM
     uint32_t day;                  // STEP
     uint32_t block_days, factor;   // LINE and STAGGERED
     uint32_t choice;               // STAGGERED
@@ -62,6 +63,15 @@ static inline size_t words_for(size_t days)
 static inline int bit_of(const struct test_case *c, size_t t)
 {
     return c->words[t / 64] >> t % 64 & 1;
+}
+
+// The place of the first present day, or the number of days.
+static inline size_t first_present(const struct test_case *c)
+{
+    size_t t = 0;
+    while (t < c->days_len && c->days[t] == MISSING)
+        t++;
+    return t;
 }
 
 // The counted limbs of a case of RECESSION, and what else is seen on the way.

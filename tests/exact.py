@@ -7,10 +7,12 @@ Each record is read, separated, stepped through day by day and totalled by the e
 and the setting are worked out anew with fractions: document 01's rules, near left out. It fails with a message where a
 figure lies outside its limit, a day has a value in one run only, or a refusal is not the one that the rules give.
 BFImax has runs of its own: the limit of each of its values counts the days up to the next one behind it on which both
-runs have the whole flow. A meter's readings, with every upper half of a float's bits, have to be the nearest litre to
-the fraction that the float is. Each call over presence bits has to give what the call over the days gives. It prints
-the largest share of each limit that was reached, and keeps that in target/tests/exact.txt, from which the page of
-guarantees takes its figures. Document 01's worked rivers are held to its figures first.
+runs have the whole flow. Filters from a start that is given have runs of their own, too: each within the limit of its
+filter, and for methods 1 to 6 any two of them as close to each other as their rule says; a river with more flow has no
+less base flow. A meter's readings, with every upper half of a float's bits, have to be the nearest litre to the fraction
+that the float is. Each call over presence bits has to give what the call over the days gives. It prints the largest
+share of each limit that was reached, and keeps that in target/tests/exact.txt, from which the page of guarantees takes
+its figures. Document 01's worked rivers are held to its figures first.
 """
 import random
 import struct
@@ -36,11 +38,9 @@ def refusal(method, p, q, s, n, days):
 
 
 def exact_run(method, p, q, s, n, days):
-    def rule(flows):
-        if method == LINE:
-            return rules.line_over(Fraction, n, p, flows)
-        return rules.passes_over(Fraction, method, p, q, s, n, flows)
-    return rules.over_stretches(rule, days)
+    if method == LINE:
+        return rules.over_stretches(lambda flows: rules.line_over(Fraction, n, p, flows), days)
+    return rules.filter_over(Fraction, (method, p, q, s, n), days)
 
 
 def daily_limit(method, p, q, s, n):
@@ -183,6 +183,83 @@ def measure(engine, setting, first, stated, shares):
     shares.within("index", index, 10 * T_exact / Y, HALF + 10 * m * limit / Y)
 
 
+# "Filters": a start that is given
+def first_stretch(days):
+    """Where the first stretch begins and where it ends; both the list's end where there is none."""
+    start, flows = next(iter(rules.stretches(days)), (len(days), []))
+    return start, start + len(flows)
+
+
+def starts_of(rng, days):
+    """Starts up to 1000 × the first present flow, and above it."""
+    first, end = first_stretch(days)
+    whole = 1000 * days[first] if first < end else 0
+    return 0, whole, rng.randrange(whole + 1), whole + 1, rng.choice((2 * whole + 2**32, 10**10 + 1, 2**64 - 1))
+
+
+def start_cases():
+    rng = random.Random(12)
+    short = [river for _, river in rivers(rng) if len(river) <= 400]
+    short += [[None] + river for river in short[:4]] + [storms(rng, 200, gap) for gap in (0, 0.01, 0.1, 0.3)]
+    for river in short:
+        for setting in (*settings(rng), *(any_filter(rng, method) for method in METHODS)):
+            if setting[0] != LINE:
+                yield setting, starts_of(rng, river), river
+    for setting in ((1, 9250, 0, 0, 3), (5, 9780, 8000, 0, 1), (7, 9700, 300, -2000, 1)):
+        river = storms(rng, 3653, 0.03)
+        yield setting, starts_of(rng, river), river
+    for setting in ((8, 9700, 0, 0, 1), (1, 0, 0, 0, 1), (1, 9250, 0, 0, 4)):
+        yield setting, (5001, 2**64 - 1), [5, 4, 6]
+
+
+def measure_start(engine, setting, start, days, shares):
+    """The base list from a start; None where it is refused."""
+    number, base = refused(engine.filter, *setting, days, start)
+    wanted = refusal(*setting, days) or rules.bad_start(start, days)
+    assert number == wanted, f"the filter from {start} answers {number}, where {wanted} is due"
+    if wanted is None:
+        assert base == rules.filter_over(rules.near, setting, days, start), f"other values from {start} than the rule has"
+        exact = rules.filter_over(Fraction, setting, days, start)
+        shares.days_within("a filter from a start", days, base, exact, daily_limit(*setting))
+        end = first_stretch(days)[1]
+        assert base[end:] == engine.filter(*setting, days)[end:], f"a later stretch knows the start {start}"
+    return base
+
+
+def measure_apart(setting, low, high, days, shares):
+    """A run from a start and one from a start at least as high: never lower on a day, and after one pass ever closer, but
+    for what rounding adds."""
+    first, end = first_stretch(days)
+    for k, (a, b) in enumerate(zip(low[first:end], high[first:end])):
+        assert a <= b, f"{k} days on {b} from the higher start, and {a} from the lower one"
+        if setting[-1] == 1:
+            left, added = rules.forgotten(*setting[:4], high[first] - low[first], k)
+            shares.within("rounding between two starts", max(b - a, left), left, added)
+
+
+def measure_starts(engine, setting, starts, days, shares):
+    """How many runs were accepted."""
+    bases = [measure_start(engine, setting, start, days, shares) for start in sorted(starts)]
+    given = [base for base in bases if base is not None]
+    for low, high in zip(given, given[1:]):
+        if setting[0] != 7:
+            measure_apart(setting, low, high, days, shares)
+    return len(given)
+
+
+def measure_order(engine):
+    """A river with at least as much flow on each day has at least as much base flow; how many pairs that was."""
+    rng, pairs = random.Random(21), 0
+    for _, river in rivers(rng):
+        for setting in [any_filter(rng, method) for method in METHODS[:-1] for _ in range(4)]:
+            most = rng.choice((1, 3, 1000, 10_000_000))
+            less = [None if day is None else max(0, day - rng.randrange(most + 1) * rng.randrange(2)) for day in river]
+            days = zip(engine.filter(*setting, less), engine.filter(*setting, river), strict=True)
+            assert all(a is None or a <= b for a, b in days), f"setting {setting}, {less} beside {river}"
+            pairs += 1
+    return pairs
+
+
 # "Staggered blocks": 14.4
 def staggered_cases():
     rng = random.Random(2026)
@@ -314,7 +391,7 @@ def bits_cases():
 
 
 def calls_over(rng, days):
-    """The six calls, as functions of an engine and of the days in either form."""
+    """The calls over days, as functions of an engine and of the days in either form."""
     setting, block_days, choice = any_filter(rng, rng.choice(METHODS)), rng.randrange(1, 6), rng.randrange(1, 4)
     last = rng.randrange(max(1, len(days)))
     limb_days, duration = rng.randrange(2, 7), rng.choice((2, last + 1, 7))
@@ -322,7 +399,9 @@ def calls_over(rng, days):
             for b in rules.whole_flows(days)]
     if base and rng.random() < 0.2:
         base[last] = 10**10 + 1
+    start = rng.choice(starts_of(rng, days))
     return (lambda engine, form: engine.filter(*setting, form),
+            lambda engine, form: engine.filter(*setting, form, start),
             lambda engine, form: engine.line(block_days, 9000, form),
             lambda engine, form: engine.staggered(block_days, 9000, choice, form),
             lambda engine, form: engine.totals(form, base),
@@ -331,7 +410,7 @@ def calls_over(rng, days):
 
 
 def measure_bits(engine):
-    """There and back, and each of the six calls over both forms; how many calls were made over bits, and how many of
+    """There and back, and each of the calls over both forms; how many calls were made over bits, and how many of
     them accepted."""
     rng, made, accepted = random.Random(28), 0, 0
     for days in bits_cases():
@@ -390,6 +469,22 @@ def worked_rivers(engine):
         ("method 7, s at its ends and beyond", [refused(engine.filter, 7, 9250, 500, s, 1, [1])[0]
                                                 for s in (-10000, -9999, 9999, 10000)], [12, None, None, 12]),
         ("method 7, two passes", refused(engine.filter, 7, 9250, 500, 0, 2, [1])[0], 13),
+        ("from 0", engine.filter(1, 9250, 0, 0, 1, [100, 200], 0), [0, 11250]),
+        ("from 1000 x the first flow", engine.filter(1, 9250, 0, 0, 1, [100, 200], 100_000), [100_000, 103_750]),
+        ("from one above it", refused(engine.filter, 1, 9250, 0, 0, 1, [100, 200], 100_001)[0], 29),
+        ("from any start, missing days only", [engine.filter(1, 9250, 0, 0, 1, [None] * 2, start)
+                                               for start in (0, 10**10 + 1, 2**64 - 1)], [[None] * 2] * 3),
+        ("from any start, no day", engine.filter(1, 9250, 0, 0, 1, [], 2**64 - 1), []),
+        ("from 0, a first day that is missing", engine.filter(1, 9250, 0, 0, 1, [None, 100, 200], 0), [None, 0, 11250]),
+        ("29, a first day that is missing", refused(engine.filter, 1, 9250, 0, 0, 1, [None, 100, 200], 100_001)[0], 29),
+        ("from 0, two stretches", engine.filter(1, 9250, 0, 0, 1, [100, None, 100, 200], 0), [0, None, 50000, 57500]),
+        ("from 0, three passes", [engine.filter(1, 9250, 0, 0, passes, [100, 200], 0) for passes in (1, 2, 3)],
+         [[0, 11250], [0, 11250], [0, 422]]),
+        ("from 1000 x the first flow, three passes",
+         [engine.filter(1, 9250, 0, 0, passes, [100, 20], 100_000) for passes in (1, 2, 3)],
+         [[100_000, 20000], [23000, 20000], [23000, 20000]]),
+        ("29 after 10", [refused(engine.filter, 1, 9250, 0, 0, 1, [100, flow], 100_001)[0]
+                         for flow in (10_000_001, 10_000_000)], [10, 29]),
         ("line", engine.line(1, 9000, flows), line),
         ("line's index", engine.totals(flows, line)[4], 7234),
         ("10 beside 9 does not turn", refused(engine.line, 1, 9000, [9, 10, 20, 8, 20])[0], 17),
@@ -478,6 +573,11 @@ def worked_rivers(engine):
         ("from bits, 28 before 10", numbers(engine.from_bits, Bits([MARK, 1], [1])), [28]),
         ("over bits, the filter", engine.filter(1, 9250, 0, 0, 1, Bits([100, 200, 0, 50], [11])),
          engine.filter(1, 9250, 0, 0, 1, [100, 200, None, 50])),
+        ("over bits, from 0", engine.filter(1, 9250, 0, 0, 1, Bits([0, 100, 200, 0, 100], [22]), 0),
+         [None, 0, 11250, None, 50000]),
+        ("over bits, from any start, all absent", engine.filter(1, 9250, 0, 0, 1, Bits([0], [0]), 2**64 - 1), [None]),
+        ("over bits, 28, 10 and 29", [refused(engine.filter, 1, 9250, 0, 0, 1, Bits([7, flow], [word]), 7001)[0]
+                                     for flow, word in ((1, 1), (MARK, 3), (1, 3))], [28, 10, 29]),
         ("over bits, the line", engine.line(1, 9000, Bits(flows, [63])), line),
         ("over bits, 14, 28 and 10", [refused(engine.totals, Bits([MARK, flow], [1]), base)[0]
                                     for flow, base in ((1, [None]), (1, [None] * 2), (0, [None] * 2))], [14, 28, 10]),
@@ -489,45 +589,41 @@ def worked_rivers(engine):
     ]
 
 
+def held(where, measuring, *arguments):
+    """What a measurement comes to; one that fails ends the run, and says where."""
+    try:
+        return measuring(*arguments)
+    except AssertionError as wrong:
+        sys.exit(f"{where}: {str(wrong)[:2000]}")
+
+
 def main():
     if len(sys.argv) != 1:
         sys.exit(__doc__)
     engine, shares, runs = Engine(), Shares(), 0
-    for name, given, wanted in worked_rivers(engine):
+    for name, given, wanted in held("worked rivers", worked_rivers, engine):
         if given != wanted:
             sys.exit(f"worked river '{name}': {given}, where document 01 has {wanted}")
     for name, setting, first, days in cases():
-        try:
-            measure(engine, setting, first, days, shares)
-        except AssertionError as wrong:
-            sys.exit(f"river '{name}', setting {setting}: {wrong}")
+        held(f"river '{name}', setting {setting}", measure, engine, setting, first, days, shares)
         runs += 1
     if runs < LEAST_RUNS:
         sys.exit(f"{runs} runs, where at least {LEAST_RUNS} are wanted")
-    bfimax_runs = 0
-    for name, last, duration, p, days in bfimax_cases():
-        try:
-            bfimax_runs += measure_bfimax(engine, last, duration, p, days, shares)
-        except AssertionError as wrong:
-            sys.exit(f"river '{name}', BFImax with last day {last}, D {duration}, p {p}: {wrong}")
-    staggered_runs = 0
-    for name, block_days, factor, days in staggered_cases():
-        try:
-            staggered_runs += measure_staggered(engine, block_days, factor, days, shares)
-        except AssertionError as wrong:
-            sys.exit(f"river '{name}', staggered lines with N {block_days}, g {factor}: {wrong}")
-    try:
-        readings = measure_meter(engine)
-    except AssertionError as wrong:
-        sys.exit(f"meter: {wrong}")
-    try:
-        over_bits, accepted = measure_bits(engine)
-    except AssertionError as wrong:
-        sys.exit(f"presence bits: {str(wrong)[:2000]}")
+    start_runs = sum(held(f"setting {setting}, starts {starts}, days {days[:400]}", measure_starts, engine, setting, starts,
+                          days, shares) for setting, starts, days in start_cases())
+    in_order = held("more flow and less base flow", measure_order, engine)
+    bfimax_runs = sum(held(f"river '{name}', BFImax with {arguments[:3]}", measure_bfimax, engine, *arguments, shares)
+                      for name, *arguments in bfimax_cases())
+    staggered_runs = sum(held(f"river '{name}', staggered lines with {arguments[:2]}", measure_staggered, engine,
+                              *arguments, shares) for name, *arguments in staggered_cases())
+    readings = held("meter", measure_meter, engine)
+    over_bits, accepted = held("presence bits", measure_bits, engine)
     lines = [f"exact: {runs} runs through the C interface lie within their limits; the largest share of each:"]
     lines += [f"  {figure}: {float(share):.3f}" for figure, share in sorted(shares.reached.items())]
     lines.append(f"exact: {bfimax_runs} further runs, of BFImax, and {staggered_runs}, of staggered lines, lie within "
                  "theirs")
+    lines.append(f"exact: {start_runs} more, of filters from a start, lie within theirs; {in_order} pairs of rivers have "
+                 "base flow in the order of their flow")
     lines.append(f"exact: {readings:,} readings of a meter are the nearest litre to a fraction, or refused")
     lines.append(f"exact: {over_bits:,} calls over presence bits, {accepted:,} of them accepted, give what those over "
                  "the days give")

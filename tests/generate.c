@@ -1,8 +1,8 @@
 // The generator of the differential runs. It aims at the edges of document 01: limits and their neighbours, marks,
 // ties, quotients at a half, falls through gaps, dry spells, limbs of chosen lengths, falls that are not at base
 // everywhere, recessions as BFImax sees them, full lists, lists of different lengths, records damaged by cutting,
-// flipping and inserting, floats of every exponent, at halves between two litres, and beside the limits, and lists that
-// end round a word's last bit, with damaged words.
+// flipping and inserting, floats of every exponent, at halves between two litres, and beside the limits, lists that
+// end round a word's last bit, with damaged words, and starts at both ends of their range and beyond.
 #include <string.h>
 
 #include "differential.h"
@@ -223,6 +223,26 @@ static void make_filter(struct test_case *c)
     fill_setting(c);
     fill_days(c);
     fill_base(c);
+}
+
+// A start from 0 to 1000 x the first present flow, at an end or between them, or one above; with no present day any.
+static void fill_start(struct test_case *c)
+{
+    size_t t = first_present(c);
+    uint64_t whole = t < c->days_len ? 1000 * (uint64_t)c->days[t] : 0;
+    uint64_t above = one_in(2) ? whole + 1
+                               : AMONG_OF(uint64_t, whole + 2, whole + 1000, whole + 4294967296, 10000000001, NO_VALUE,
+                                          NO_VALUE - 1);
+    if (t == c->days_len ? !one_in(3) : spoil() || one_in(10))
+        c->start = above;
+    else
+        c->start = one_in(4) ? 0 : one_in(3) ? whole : one_in(8) && whole > 0 ? whole - 1 : draw() % (whole + 1);
+}
+
+static void make_filter_from(struct test_case *c)
+{
+    make_filter(c);
+    fill_start(c);
 }
 
 static void make_step(struct test_case *c)
@@ -846,8 +866,8 @@ static void make_from_bits(struct test_case *c)
 // Any call over days, with these in the other form.
 static void make_over_bits(struct test_case *c)
 {
-    static void (*const make[])(struct test_case *) = {make_filter,    make_line,   make_totals,
-                                                       make_recession, make_bfimax, make_staggered};
+    static void (*const make[])(struct test_case *) = {make_filter, make_line,      make_totals,     make_recession,
+                                                       make_bfimax, make_staggered, make_filter_from};
     make[c->call - FILTER_BITS](c);
     turn_into_bits(c);
     spoil_bits(c);
@@ -862,7 +882,8 @@ void generate(struct test_case *c, uint64_t seed, uint64_t number)
         [STAGGERED] = make_staggered, [HALF_LIFE] = make_half_life, [METER] = make_meter,
         [TO_BITS] = make_to_bits, [FROM_BITS] = make_from_bits, [FILTER_BITS] = make_over_bits,
         [LINE_BITS] = make_over_bits, [TOTALS_BITS] = make_over_bits, [RECESSION_BITS] = make_over_bits,
-        [BFIMAX_BITS] = make_over_bits, [STAGGERED_BITS] = make_over_bits,
+        [BFIMAX_BITS] = make_over_bits, [STAGGERED_BITS] = make_over_bits, [FILTER_FROM] = make_filter_from,
+        [FILTER_FROM_BITS] = make_over_bits,
     };
     state = seed << 40 ^ number;
     state = draw();
@@ -876,7 +897,8 @@ void generate(struct test_case *c, uint64_t seed, uint64_t number)
     c->call = turn < 16   ? READ
               : turn < 22 ? (enum call)(TO_BITS + below(CALLS - TO_BITS))
               : turn < 24 ? METER
-              : turn < 40 ? FILTER
+              : turn < 33 ? FILTER
+              : turn < 40 ? FILTER_FROM
               : turn < 48 ? STEP
               : turn < 52 ? STEPS
               : turn < 60 ? LINE

@@ -18,8 +18,6 @@ sys.dont_write_bytecode = True
 import rules
 from interface import products
 
-NAMES = {1: "1 Lyne-Hollick", 2: "2 Chapman 1991", 3: "3 Chapman-Maxwell", 4: "4 Boughton", 5: "5 Eckhardt",
-         6: "6 Tularam-Ilahee", 7: "7 Jakeman-Hornberger"}
 # method, p, q, s, passes
 USUAL = ((1, 9250, 0, 0, 1), (1, 9250, 0, 0, 2), (1, 9250, 0, 0, 3), (1, 9000, 0, 0, 1), (1, 9500, 0, 0, 1),
          (1, 9800, 0, 0, 3), (2, 9250, 0, 0, 1), (2, 9500, 0, 0, 1), (3, 9500, 0, 0, 1), (3, 9700, 0, 0, 1),
@@ -58,7 +56,7 @@ def table():
         assert rules.bad_setting(method, p, q, s) is None
         limit = up(daily_limit(method, p, q, s, passes), 3)
         used = "".join(f"{n} | " if n else "| " for n in (q, s))
-        yield f"| {NAMES[method]} | {p} | {used}{passes} | {limit} |"
+        yield f"| {rules.NAMES[method]} | {p} | {used}{passes} | {limit} |"
     yield f"| minima line | any N and g | | | | {up(LINE_LIMIT, 3)} |"
 
 

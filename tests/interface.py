@@ -71,10 +71,13 @@ class Engine:
         self.library, self.prefix = ctypes.CDLL(str(shared)), prefix
 
     def call(self, name, *arguments):
+        """A call; one that refuses has to leave what it was lent as it was."""
         function = getattr(self.library, f"{self.prefix}_{name}")
         function.restype = ctypes.c_uint32
+        before = lent(arguments)
         number = function(*arguments)
         if number:
+            assert lent(arguments) == before, f"{name} is refused with {number}, and has written"
             raise Refused(number)
 
     def call_over(self, days, name, before, *behind):
@@ -91,9 +94,13 @@ class Engine:
                   ctypes.byref(count))
         return first.value, [None if day == MISSING else day for day in days[:count.value]]
 
-    def filter(self, method, p, q, s, passes, days):
-        base = listed(ctypes.c_uint64, [0] * len(days))
-        self.call_over(days, "filter", (*setting(method, p, q, s), ctypes.c_uint32(passes)), base, size(days))
+    def filter(self, method, p, q, s, passes, days, start=None):
+        """The base flow, from the usual start or from one that is given."""
+        base, words = listed(ctypes.c_uint64, [7] * len(days)), (*setting(method, p, q, s), ctypes.c_uint32(passes))
+        if start is None:
+            self.call_over(days, "filter", words, base, size(days))
+        else:
+            self.call_over(days, "filter_from", (*words, ctypes.c_uint64(start)), base, size(days))
         return base_values(base, days)
 
     def line(self, block_days, factor, days):
@@ -168,6 +175,12 @@ class Engine:
         days, present = listed(ctypes.c_uint32, [7] * len(bits)), ctypes.c_uint32()
         self.call_over(bits, "from", (), days, size(bits), ctypes.byref(present))
         return [None if day == MISSING else day for day in days[:len(bits)]], present.value
+
+
+def lent(arguments):
+    """What the lists and the out-parameters among the arguments hold."""
+    return [bytes(getattr(argument, "_obj", argument)) for argument in arguments
+            if isinstance(argument, ctypes.Array) or hasattr(argument, "_obj")]
 
 
 def setting(method, p, q, s):

@@ -13,9 +13,17 @@ REST_TEST = "if (left > 4) return 8;"
 TOTAL_TEST = "if (count > MOST_DAYS) return 5;"
 ROOM_TEST = "if (count > days_len) return 6;"
 BACKWARD = "if (passes >= 2) later_pass(&w, base + t - 1, t - start, -1);"
+FORWARD = "if (passes == 3) later_pass(&w, base + start, t - start, 1);"
 SUM = "w->a * f + w->b * u + (uint64_t)w->c * u_before"
 AT_ZERO = "sum < 0 ? 0 : smaller(u, near((uint64_t)sum, w->d))"
 S_TEST = "method == 7 ? s < -9999 || s > 9999 : s != 0"
+FIRST_DAY = "f = given != NULL && start == first_day ? *given : first(method, q, days[t]);"
+STARTED = "given != NULL && start == first_day"
+START_29_TEST = "if (given != NULL && first_day < days_len && *given > 1000 * (uint64_t)days[first_day]) return 29;"
+FIRST_PRESENT = "size_t first_day = first_present(days, days_len);"
+FORM_STARTED = "return filter_form(method, p, q, s, passes, &start, flows,"
+PASSES_OVER_BITS = ("uint32_t refusal = weigh_passes(method, p, q, s, passes, &w); if (refusal != 0) return refusal; "
+                    "refusal = find_days")
 NEXT_DAY = "f = next(&w, f, u, u_before); base[t] = f;"
 BY_DAY_COUNT = ("if (left->day_count != right->day_count) "
                 "return left->day_count > right->day_count ? -1 : 1;")
@@ -102,8 +110,34 @@ FAULTS = (
     ("method 7 takes no s below zero", S_TEST, "method == 7 ? s < 0 || s > 9999 : s != 0"),
     ("method 7 takes two passes", "method == 1 ? 3 : 1", "method == 1 ? 3 : method == 7 ? 2 : 1"),
     ("method 8 is taken", "within(method, 1, 7)", "within(method, 1, 8)"),
-    ("a filter carries base over a gap", "f = first(method, q, days[t]);",
+    ("a filter carries base over a gap", FIRST_DAY,
      "f = t > 1 && days[t - 2] != MISSING ? base[t - 2] : first(method, q, days[t]);"),
+    ("a start is passed over", FIRST_DAY, "f = first(method, q, days[t]);"),
+    ("a start serves every stretch", STARTED, "given != NULL"),
+    ("a start serves the list's first day alone", STARTED, "given != NULL && start == 0"),
+    ("a start serves pass 2", BACKWARD, f"if (passes >= 2 && {STARTED}) base[t - 1] = *given; {BACKWARD}"),
+    ("a start serves pass 3", FORWARD, f"if (passes == 3 && {STARTED}) base[start] = *given; {FORWARD}"),
+    ("a start serves method 1 alone", STARTED, f"method == 1 && {STARTED}"),
+    ("a start of 0 is none", STARTED, f"{STARTED} && *given != 0"),
+    ("a start is the day before's base", FIRST_DAY,
+     f"f = {STARTED} ? next(&w, *given, u, u) : first(method, q, days[t]);"),
+    ("the lowest 32 bits of a start", "*given : first", "(uint32_t)*given : first"),
+    ("a start above the flow is the flow", START_29_TEST, "uint64_t held; if (given != NULL && first_day < days_len) "
+     "{ held = smaller(*given, 1000 * (uint64_t)days[first_day]); given = &held; }"),
+    ("a start above the flow is taken", START_29_TEST, ""),
+    ("a start of the whole flow is refused", "*given > 1000", "*given >= 1000"),
+    ("29 compares with litres", "*given > 1000 * (uint64_t)days[first_day]", "*given / 1000 > days[first_day]"),
+    ("29 by the usual start", "*given > 1000 * (uint64_t)days[first_day]", "*given > first(method, q, days[first_day])"),
+    ("29 by the list's first day", "first_day < days_len && *given > 1000 * (uint64_t)days[first_day]",
+     "days_len > 0 && *given > 1000 * (uint64_t)days[0]"),
+    ("29 by the largest flow", START_29_TEST, "if (given != NULL && *given > 1000 * (uint64_t)MOST_FLOW) return 29;"),
+    ("29 without a present day", "first_day < days_len && *given > 1000 * (uint64_t)days[first_day]",
+     "*given > (first_day < days_len ? 1000 * (uint64_t)days[first_day] : 0)"),
+    ("29 before 10", f"{DAYS_TEST} {FIRST_PRESENT} {START_29_TEST}", f"{FIRST_PRESENT} {START_29_TEST} {DAYS_TEST}"),
+    ("29 before 14", f"{LENGTHS_TEST} {DAYS_TEST} {FIRST_PRESENT}",
+     f"{FIRST_PRESENT} if (base_len != days_len) {START_29_TEST} {LENGTHS_TEST} {DAYS_TEST}"),
+    ("a value is written before 29", START_29_TEST, f"if (first_day < days_len) base[first_day] = 0; {START_29_TEST}"),
+    ("a start over bits is passed over", FORM_STARTED, FORM_STARTED.replace("&start", "NULL")),
     ("a step carries yesterday over a gap", "*has_yesterday = 0;", ";"),
     ("a step tests a fresh state", "*has_yesterday != 0 && (*flow", "(*flow"),
     ("pass 2 over the flow", BACKWARD,
@@ -285,9 +319,13 @@ FAULTS = (
     ("from bits an absent day is dry", SET_MISSING, ";"),
     ("days are written before 28", BITS_TEST, f"if (days_len > 0) days[0] = flows[0]; {BITS_TEST}"),
     ("the present days are written before 28", BITS_TEST, f"*present = 0; {BITS_TEST}"),
-    ("28 before 13", "if (!within(passes, 1, method == 1 ? 3 : 1)) return 13; refusal = find_days",
-     f"refusal {FOUND_DAYS} if (refusal == 28) return 28; if (!within(passes, 1, method == 1 ? 3 : 1)) return 13; "
-     "refusal = find_days"),
+    ("28 before 13", PASSES_OVER_BITS,
+     "uint32_t refusal = weigh(method, p, q, s, &w); if (refusal != 0) return refusal; "
+     f"refusal {FOUND_DAYS} if (refusal == 28) return 28; refusal = weigh_passes(method, p, q, s, passes, &w); "
+     "if (refusal != 0) return refusal; refusal = find_days"),
+    ("29 before 28", f"{PASSES_OVER_BITS}(flows, flows_len, words, words_len, base_len, days);",
+     f"{PASSES_OVER_BITS}(flows, flows_len, words, words_len, base_len, days); if (refusal == 28 && given != NULL && "
+     "flows_len > 0 && *given > 1000 * (uint64_t)flows[0]) return 29;"),
     ("28 before 25", WORK_BITS_TEST,
      f"uint32_t early {FOUND_DAYS} if (early == 28) return 28; {WORK_BITS_TEST}"),
     ("25 behind 10 over bits", WORK_BITS_TEST,

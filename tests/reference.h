@@ -13,6 +13,8 @@ uint32_t NAME(read)(const uint8_t *bytes, size_t bytes_len, uint32_t *days, size
                     uint32_t *day_count);
 uint32_t NAME(filter)(uint32_t method, uint32_t p, uint32_t q, int32_t s, uint32_t passes, const uint32_t *days,
                       size_t days_len, uint64_t *base, size_t base_len);
+uint32_t NAME(filter_from)(uint32_t method, uint32_t p, uint32_t q, int32_t s, uint32_t passes, uint64_t start,
+                           const uint32_t *days, size_t days_len, uint64_t *base, size_t base_len);
 uint32_t NAME(step)(uint32_t method, uint32_t p, uint32_t q, int32_t s, uint32_t day, uint32_t *has_yesterday,
                     uint32_t *flow, uint64_t *base, uint64_t *value);
 uint32_t NAME(line)(uint32_t block_days, uint32_t factor, const uint32_t *days, size_t days_len, uint64_t *base,
@@ -34,6 +36,9 @@ uint32_t NAME(from_bits)(const uint32_t *flows, size_t flows_len, const uint64_t
                          uint32_t *days, size_t days_len, uint32_t *present);
 uint32_t NAME(filter_bits)(uint32_t method, uint32_t p, uint32_t q, int32_t s, uint32_t passes, const uint32_t *flows,
                            size_t flows_len, const uint64_t *words, size_t words_len, uint64_t *base, size_t base_len);
+uint32_t NAME(filter_from_bits)(uint32_t method, uint32_t p, uint32_t q, int32_t s, uint32_t passes, uint64_t start,
+                                const uint32_t *flows, size_t flows_len, const uint64_t *words, size_t words_len,
+                                uint64_t *base, size_t base_len);
 uint32_t NAME(line_bits)(uint32_t block_days, uint32_t factor, const uint32_t *flows, size_t flows_len,
                          const uint64_t *words, size_t words_len, uint64_t *base, size_t base_len);
 uint32_t NAME(staggered_bits)(uint32_t block_days, uint32_t factor, uint32_t choice, const uint32_t *flows,

@@ -47,11 +47,11 @@ def bad_lists(days, base):
     return Refusal(14) if len(days) != len(base) else bad_days(days)
 
 
-def filter_call(method, p, q, s, passes, days, base):
+def filter_call(method, p, q, s, passes, days, base, start=None):
     cause = rules.bad_setting(method, p, q, s) or rules.bad_passes(method, passes) or bad_lists(days, base)
+    cause = cause or rules.bad_start(start, views(days))
     if not cause:
-        setting = method, p, q, s, passes
-        base[:] = marks(rules.over_stretches(lambda y: rules.passes_over(near, *setting, y), views(days)))
+        base[:] = marks(rules.filter_over(near, (method, p, q, s, passes), views(days), start))
     return cause
 
 
@@ -192,9 +192,14 @@ def answer(result, accepted):
     return words(': refused', result) if isinstance(result, Refusal) else words(': ' + accepted, *(result or ()))
 
 
-def show_filter(method, p, q, s, passes, days, base):
-    cause = filter_call(method, p, q, s, passes, days, base)
-    out.append(words('filter', method, p, q, s, passes) + answer(cause, 'accepted') + base_text(base))
+def filter_text(setting, start):
+    return words('filter', *setting) + ('' if start is None else words(' from', start))
+
+
+def show_filter(method, p, q, s, passes, days, base, start=None):
+    setting = method, p, q, s, passes
+    cause = filter_call(*setting, days, base, start)
+    out.append(filter_text(setting, start) + answer(cause, 'accepted') + base_text(base))
 
 
 def show_line(block_days, factor, days, base):
@@ -271,9 +276,10 @@ def show_from_bits(flows, words_of, days):
     out.append(words('from bits', len(flows)) + answer(result, 'present') + words(', days', check_sum(days)))
 
 
-def show_bits_filter(method, p, q, s, passes, flows, words_of, base):
-    cause = over_bits(lambda days: filter_call(method, p, q, s, passes, days, base), flows, words_of)
-    out.append(words('bits filter', method, p, q, s, passes) + answer(cause, 'accepted') + base_text(base))
+def show_bits_filter(method, p, q, s, passes, flows, words_of, base, start=None):
+    setting = method, p, q, s, passes
+    cause = over_bits(lambda days: filter_call(*setting, days, base, start), flows, words_of)
+    out.append('bits ' + filter_text(setting, start) + answer(cause, 'accepted') + base_text(base))
 
 
 def show_bits_line(block_days, factor, flows, words_of, base):
@@ -306,6 +312,7 @@ def in_bits(days, filters, lines, spell):
     flows, words_of, began = [0] * len(days), [0] * rules.words_for(len(days)), len(out)
     base, work, again = [0] * len(days), [0] * (lines[0] * len(days)), [0] * len(days)
     show_to_bits(days, flows, words_of)
+    show_bits_filter(1, 9250, 0, 0, 3, flows, words_of, base, 0)
     show_bits_filter(1, 9250, 0, 0, 3, flows, words_of, base)
     show_bits_totals(flows, words_of, base)
     show_bits_line(5, 9000, flows, words_of, base)
@@ -313,6 +320,7 @@ def in_bits(days, filters, lines, spell):
     show_bits_ratios(2, flows, words_of, base, [0] * 8192)
     for setting in filters:
         show_bits_filter(*setting, flows, words_of, base)
+        show_bits_filter(*setting, flows, words_of, base, 0)
     show_bits_staggered(*lines, flows, words_of, base, work)
     show_bits_bfimax(*spell, flows, words_of, base)
     assert {line.removeprefix('bits ') for line in out[began + 1:] if ': refused' not in line} <= set(out[:began])
@@ -327,6 +335,10 @@ def thirty_years(seed, gaps):
                     (4, 9780, 500, 0, 1), (5, 9780, 8000, 0, 1), (6, 9250, 0, 0, 1), (7, 9700, 300, -9999, 1)):
         show_filter(*setting, days, base)
         show_totals(days, base)
+    whole = 1000 * next(y for y in views(days) if y is not None)
+    for start in (0, whole, whole + 1):
+        for setting in ((1, 9250, 0, 0, 3), (5, 9780, 8000, 0, 1), (7, 9700, 300, -9999, 1)):
+            show_filter(*setting, days, base, start)
     show_steps(1, 9250, 0, 0, days)
     show_steps(5, 9780, 8000, 0, days)
     show_steps(7, 9700, 300, -9999, days)
@@ -354,6 +366,7 @@ def full_record():
         data += bytes([3]) if d == MISSING else bytes([2]) + d.to_bytes(4, 'little')
     data += bytes([9]) + (36525).to_bytes(4, 'little')
     show_read(data, days)
+    show_filter(1, 9250, 0, 0, 3, days, base, 0)
     show_filter(1, 9250, 0, 0, 3, days, base)
     show_totals(days, base)
     show_line(5, 9000, days, base)
@@ -391,6 +404,13 @@ def refusals():
     show_ratios(2, [1] * 36526, base, limbs)
     show_ratios(2, days, [7], limbs)
     show_ratios(2, days, base, limbs)
+    days, base = [MISSING, 100, 10_000_001], [7] * 3
+    for setting in ((8, 9250, 0, 0, 1), (2, 3333, 0, 0, 1), (2, 9250, 0, 0, 2), (1, 9250, 0, 0, 1)):
+        show_filter(*setting, days, base, 100_001)
+    show_filter(1, 9250, 0, 0, 1, [1] * 36526, base, 1001)
+    show_filter(1, 9250, 0, 0, 1, days, [7, 7], 100_001)
+    for start in (100_001, 2**64 - 1):
+        show_filter(1, 9250, 0, 0, 1, [MISSING, 100, 10_000_000], base, start)
     show_step(5, 5001, 0, 0, 10_000_001)
     show_step(5, 5001, 1, 0, 10_000_001)
     show_step(5, 5001, 1, 9250, 10_000_001)
@@ -427,7 +447,7 @@ def refusals():
         show_float(kind, *floats(value))
     bits_refusals()
     seen = {line.split(': refused ')[1].split(',')[0] for line in out if ': refused ' in line}
-    assert seen == {str(n) for n in range(1, 29)}, seen
+    assert seen == {str(n) for n in range(1, 30)}, seen
 
 
 def bits_refusals():
@@ -455,6 +475,8 @@ def bits_refusals():
     form, base, work, limbs = ([100, 200], [1]), [7, 7], [7] * 4, [7, 7]
     for setting in ((8, 9250, 0, 0, 1), (2, 3333, 0, 0, 1), (2, 9250, 0, 0, 2)):
         show_bits_filter(*setting, *form, base)
+    for setting in ((8, 9250, 0, 0, 1), (2, 3333, 0, 0, 1), (2, 9250, 0, 0, 2)):
+        show_bits_filter(*setting, *form, base, 100_001)
     show_bits_line(31, 9000, *form, base)
     show_bits_staggered(2, 9000, 4, *form, base, work)
     show_bits_staggered(1, 9000, 1, *form, base, work)
@@ -470,6 +492,7 @@ def bits_refusals():
 def each_call(form):
     base = [7, 7]
     show_bits_filter(1, 9250, 0, 0, 1, *form, base)
+    show_bits_filter(1, 9250, 0, 0, 1, *form, base, 1001)
     show_bits_line(1, 9000, *form, base)
     show_bits_staggered(1, 9000, 1, *form, base, [7, 7])
     show_bits_totals(*form, base)
@@ -484,12 +507,39 @@ def bits_values():
     show_bits_totals(*form, base)
     show_bits_ratios(2, *form, base, limbs)
     show_bits_bfimax(4, 2, 9500, *form, base)
+    show_bits_filter(1, 9250, 0, 0, 1, *form, base, 1)
+    show_bits_filter(1, 9250, 0, 0, 1, [0, 100], [2], [7, 7], 100_001)
     show_bits_ratios(2, *form, [0, 100_000, 90_000, 81_000, NO_VALUE], limbs)
     show_bits_totals(*form, [0] * 5)
     show_bits_ratios(2, *form, [0] * 5, limbs)
     form, base = ([0, 100, 0, 0], [14]), [7] * 4
     show_bits_bfimax(3, 2, 9500, *form, base)
     show_bits_bfimax(3, 3, 9500, *form, base)
+
+
+STARTS = (  # days, start, and the values after one, two and three passes
+    ([100, 200], 0, ([0, 11250], [0, 11250], [0, 422])),
+    ([100, 200], 100_000, ([100_000, 103_750], [100_000, 103_750], [100_000, 100_141])),
+    ([100, 200], 100_001, ([7, 7], [7, 7], [7, 7])),
+    ([100, 20], 100_000, ([100_000, 20000], [23000, 20000], [23000, 20000])),
+    ([MISSING] * 2, 0, ([NO_VALUE] * 2,) * 3),
+    ([MISSING] * 2, 2**64 - 1, ([NO_VALUE] * 2,) * 3),
+    ([MISSING, 100, 200], 0, ([NO_VALUE, 0, 11250], [NO_VALUE, 0, 11250], [NO_VALUE, 0, 422])),
+    ([100, MISSING, 100, 200], 0, ([0, NO_VALUE, 50000, 57500], [0, NO_VALUE, 50000, 57500], [0, NO_VALUE, 50000, 50281])),
+)
+
+
+def starts():
+    for days, start, wanted in STARTS:
+        base = [7] * len(days)
+        for passes, values in enumerate(wanted, 1):
+            show_filter(1, 9250, 0, 0, passes, days, base, start)
+            assert base == values, (days, start, passes, base)
+    for flows, words_of, *given in (([0, 0], [0], 2**64 - 1), ([0, 100, 200], [6], 0, 100_001),
+                                    ([100, 0, 100, 200], [13], 0)):
+        base = [7] * len(flows)
+        for start in given:
+            show_bits_filter(1, 9250, 0, 0, 3, flows, words_of, base, start)
 
 
 def half_lives():
@@ -545,6 +595,7 @@ def main():
         thirty_years(seed, gaps)
     full_record()
     refusals()
+    starts()
     half_lives()
     readings()
     metered_years()

@@ -70,7 +70,7 @@ def record(first, days):
     return b"".join(parts)
 
 
-# "Filters": 3.1 to 3.7
+# "Filters": 3.1 to 3.7, and a start that is given
 def stretches(days):
     """The first place and the flows of each longest list of neighbouring present days."""
     found, start = [], None
@@ -89,6 +89,10 @@ def over_stretches(rule, days):
     for start, flows in stretches(days):
         values[start:start + len(flows)] = rule(flows)
     return values
+
+
+NAMES = {1: "1 Lyne-Hollick", 2: "2 Chapman 1991", 3: "3 Chapman-Maxwell", 4: "4 Boughton", 5: "5 Eckhardt",
+         6: "6 Tularam-Ilahee", 7: "7 Jakeman-Hornberger"}
 
 
 def weights(method, p, q, s):
@@ -113,16 +117,23 @@ def one_pass(over, w, u, start):
     return f
 
 
-def passes_over(over, method, p, q, s, passes, flows):
-    """The filter of one stretch."""
+def passes_over(over, method, p, q, s, passes, flows, start=None):
+    """The filter of one stretch, from the usual start or from another."""
     w = weights(method, p, q, s)
-    first = over(9 * q * flows[0], 100) if method == 5 else 500 * flows[0]
-    f = one_pass(over, w, [1000 * y for y in flows], first)
+    if start is None:
+        start = over(9 * q * flows[0], 100) if method == 5 else 500 * flows[0]
+    f = one_pass(over, w, [1000 * y for y in flows], start)
     for n in range(2, passes + 1):
         u = f[::-1] if n == 2 else f
         f = one_pass(over, w, u, u[0])
         f = f[::-1] if n == 2 else f
     return f
+
+
+def filter_over(over, setting, days, start=None):
+    """The filter of a day list. A start that is given serves the first stretch."""
+    starts = iter([start])
+    return over_stretches(lambda flows: passes_over(over, *setting, flows, next(starts, None)), days)
 
 
 def bad_setting(method, p, q, s):
@@ -138,6 +149,19 @@ def bad_setting(method, p, q, s):
 
 def bad_passes(method, passes):
     return None if 1 <= passes <= (3 if method == 1 else 1) else Refusal(13)
+
+
+def bad_start(start, days):
+    """29 for a start that is given and lies above 1000 × the first present flow, or None."""
+    first = next((y for y in days if y is not None), None)
+    return Refusal(29) if start is not None and first is not None and start > 1000 * first else None
+
+
+def forgotten(method, p, q, s, apart, k):
+    """How far two runs of one pass may lie apart, k days after a start on which they were so far apart: what is left of
+    that, and what rounding may add to it."""
+    A, _, _, d = weights(method, p, q, s)
+    return apart * Fraction(A, d)**k, Fraction(d, d - A)
 
 
 # "Block-minima line": 4.1 to 4.4

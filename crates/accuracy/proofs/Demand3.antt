@@ -17,8 +17,10 @@ use Rattle.series.proofs.Agreeing.{agreed_length}
 use Rattle.series.proofs.Refusing.{outcome_accepted, leaves_accepted}
 use Rattle.record.proofs.Accepting.{stated_first}
 use Rattle.filter.specs.declared.Setting.{Setting}
+use Rattle.filter.specs.declared.start.Start.{Start}
+use Rattle.filter.specs.declared.start.Start.TheVariants.{Usual}
 use Rattle.filter.specs.Call.{filter_causes}
-use Rattle.filter.proofs.Calls.{filter_accepted, one_pass}
+use Rattle.filter.proofs.Calls.{filter_accepted, one_pass, usual_start}
 use Rattle.filter.proofs.Distance.{reads_filter_limit}
 use Rattle.filter.proofs.Sentences.{distance, steps_give_pass_1}
 use Rattle.minima.specs.declared.LineSetting.{LineSetting}
@@ -55,17 +57,17 @@ claimed {choice} {days} s =
     }
 
 -- a filter
-filter_claimed : (s : Setting) (n : ℕ) (days base : List ℕ) → first_cause (filter_causes s n days base) ≡ none → Accepts (Filter s n) days
-filter_claimed s n days base e =
-    let a = filter_accepted s n days base e in
+filter_claimed : (s : Setting) (n : ℕ) (from : Start) (days base : List ℕ) → first_cause (filter_causes s n from days base) ≡ none → Accepts (Filter s n from) days
+filter_claimed s n from days base e =
+    let a = filter_accepted s n from days base e in
     record {
       few = a.few;
       valid = a.valid;
-      agreement = distance s n a.usable a.passes (map day_of days);
+      agreement = distance s n a.usable a.passes from (map day_of days) a.start;
       upper = _;
       lower = _;
       limit = reads_filter_limit a.usable n;
-      steps = record { pass_1 = steps_give_pass_1 s a.usable days a.valid; distance = distance s 1 a.usable (one_pass s) (map day_of days) };
+      steps = record { pass_1 = steps_give_pass_1 s a.usable days a.valid; distance = distance s 1 a.usable (one_pass s) Usual (map day_of days) (usual_start (map day_of days)) };
     }
 
 -- a line
@@ -77,7 +79,7 @@ line_claimed s days base e =
 -- a choice whose call accepts the days
 claim_of : (choice : Choice) (days base : List ℕ) → first_cause (chosen_causes choice days base) ≡ none → Claim choice days
 claim_of (Line s) days base h = claimed (line_claimed s days base h)
-claim_of (Filter s n) days base h = claimed (filter_claimed s n days base h)
+claim_of (Filter s n from) days base h = claimed (filter_claimed s n from days base h)
 
 -- of every run
 pub demand_3 : (bytes : List ℕ) (choice : Choice) (days base : List ℕ) → Demand3 (length days) bytes choice base (run bytes choice days base)

@@ -14,6 +14,7 @@ use Rattle.series.proofs.Refusing.{outcome_refused, outcome_accepted, leaves_ref
 use Rattle.record.specs.Call.{reading, reply_of, read_leaves}
 use Rattle.record.proofs.Accepting.{Answered, answered, stated_first}
 use Rattle.filter.specs.declared.Setting.{Setting}
+use Rattle.filter.specs.declared.start.Start.{Start}
 use Rattle.filter.specs.Call.{filter_causes, filter_leaves}
 use Rattle.filter.proofs.Calls.{leaves_filtered, leaves_as_it_was}
 use Rattle.filter.proofs.Sentences.{filtered_list_lem}
@@ -36,9 +37,9 @@ abbrev Called : Choice → (days base : List ℕ) → Option ℕ → List ℕ �
 Called choice days base r b = (r ≡ first_cause (chosen_causes choice days base)) × (b ≡ leaves (chosen_causes choice days base) (base_list choice days) base)
 
 module _ {choice : Choice} (days base : List ℕ) {r : Option ℕ} {b : List ℕ} where
-  pub filter_called : {s : Setting} {n : ℕ} → choice ≡ Filter s n → (r ≡ first_cause (filter_causes s n days base)) × (b ≡ filter_leaves s n days base) → Called choice days base r b
-  filter_called {s} {n} e h =
-      let left = leaves_by (filter_causes s n days base) (base_list (Filter s n) days) base (λ g. leaves_filtered s n days base g ∙ filtered_list_lem s n days) (λ k g. leaves_as_it_was s n days base g) in
+  pub filter_called : {s : Setting} {n : ℕ} {from : Start} → choice ≡ Filter s n from → (r ≡ first_cause (filter_causes s n from days base)) × (b ≡ filter_leaves s n from days base) → Called choice days base r b
+  filter_called {s} {n} {from} e h =
+      let left = leaves_by (filter_causes s n from days base) (base_list (Filter s n from) days) base (λ g. leaves_filtered s n from days base g ∙ filtered_list_lem s n from days) (λ k g. leaves_as_it_was s n from days base g) in
       subst (λ x. Called x days base r b) (sym e) (h.0, h.1 ∙ left)
 
   pub line_called : {s : LineSetting} → choice ≡ Line s → (r ≡ first_cause (line_causes s days base)) × (b ≡ line_leaves s days base) → Called choice days base r b

@@ -13,12 +13,13 @@ use lib.Dec.{T}
 use Rattle.numbers.specs.Near.{near}
 use Rattle.numbers.specs.Fraction.{Fraction, whole, half, sum, opposite, difference, surplus, multiple, quotient, least}
 use Rattle.numbers.specs.Arithmetic.{rounded, exact, weighted, Close}
-use Rattle.series.specs.Segments.{over_segments}
+use Rattle.series.specs.Segments.{over_first}
 use Rattle.numbers.specs.Scan.{recursive}
 use Rattle.numbers.specs.Lists.{Each, done, then}
 use Rattle.series.specs.Agreement.{Agree, no_value, values}
 use Rattle.series.proofs.Views.{one_of}
 use Rattle.filter.specs.declared.Setting.{Setting}
+use Rattle.filter.specs.declared.start.Start.TheVariants.{Usual}
 use Rattle.filter.specs.Methods.{method_of, weights, start}
 use Rattle.filter.specs.Passes.{step, thousandths, filtered}
 use Rattle.filter.specs.Distance.{limit_of, filter_limit}
@@ -64,8 +65,8 @@ abbrev ones : List (Option ℕ)
 ones = some 1 ∷ some 1 ∷ some 1 ∷ some 1 ∷ some 1 ∷ some 1 ∷ some 1 ∷ some 1 ∷ some 1 ∷ some 1 ∷ []
 
 -- the 2 of P is no 3: day 5 has 968, and exactly 968.7249..
-the_2 : Each (Agree (quotient (whole (1 * 10000)) (3 * (10000 - 5001)))) ones (filtered rounded steady 1 ones) (filtered exact steady 1 ones) → ⊥
-unfolding whole half sum opposite difference surplus multiple quotient least limit_of filtered over_segments method_of weights start step recursive thousandths weighted near filter_limit day_outside outside
+the_2 : Each (Agree (quotient (whole (1 * 10000)) (3 * (10000 - 5001)))) ones (filtered rounded steady 1 Usual ones) (filtered exact steady 1 Usual ones) → ⊥
+unfolding whole half sum opposite difference surplus multiple quotient least limit_of filtered over_first method_of weights start step recursive thousandths weighted near filter_limit day_outside outside
 the_2 = breaks_day refl
 
 -- the n of P: three passes of method 1 with p 100 over flows 0, 6, 9, 9, 7 lie further apart than one pass may
@@ -75,25 +76,25 @@ quick = record { method = 1; p = 100; q = 0; s = pos 0 }
 abbrev five : List (Option ℕ)
 five = some 0 ∷ some 6 ∷ some 9 ∷ some 9 ∷ some 7 ∷ []
 
-the_n : Each (Agree (filter_limit quick 1)) five (filtered rounded quick 3 five) (filtered exact quick 3 five) → ⊥
-unfolding whole half sum opposite difference surplus multiple quotient least limit_of filtered over_segments method_of weights start step recursive thousandths weighted near filter_limit day_outside outside
+the_n : Each (Agree (filter_limit quick 1)) five (filtered rounded quick 3 Usual five) (filtered exact quick 3 Usual five) → ⊥
+unfolding whole half sum opposite difference surplus multiple quotient least limit_of filtered over_first method_of weights start step recursive thousandths weighted near filter_limit day_outside outside
 the_n = breaks_day refl
 
 -- the days with a base value of a river, in either run
 abbrev rounded_days : Setting → List (Option ℕ) → List (BaseDay ℕ)
-rounded_days s days = base_days days (filtered rounded s 1 days)
+rounded_days s days = base_days days (filtered rounded s 1 Usual days)
 
 abbrev exact_days : Setting → List (Option ℕ) → List (BaseDay Fraction)
-exact_days s days = base_days days (filtered exact s 1 days)
+exact_days s days = base_days days (filtered exact s 1 Usual days)
 
 -- the m of the totals: over the ten days of flow 1 the total is 8999, and exactly 9000.778..; P is 1.0002..
 the_m : Close (filter_limit steady 1) (base_total rounded (rounded_days steady ones)) (base_total exact (exact_days steady ones)) → ⊥
-unfolding whole half sum opposite difference surplus multiple quotient least limit_of filtered over_segments method_of weights start step recursive thousandths weighted near filter_limit outside base_days flow_total base_total index
+unfolding whole half sum opposite difference surplus multiple quotient least limit_of filtered over_first method_of weights start step recursive thousandths weighted near filter_limit outside base_days flow_total base_total index
 the_m = breaks refl
 
 -- the 10 of the index: there m and Y are 10, so that m × P / Y is P; the index is 8999, and exactly 9000.778..
 the_10 : Close (sum (quotient (multiple 10 (filter_limit steady 1)) 10) half) (index rounded (rounded_days steady ones)) (index exact (exact_days steady ones)) → ⊥
-unfolding whole half sum opposite difference surplus multiple quotient least limit_of filtered over_segments method_of weights start step recursive thousandths weighted near filter_limit outside base_days flow_total base_total index
+unfolding whole half sum opposite difference surplus multiple quotient least limit_of filtered over_first method_of weights start step recursive thousandths weighted near filter_limit outside base_days flow_total base_total index
 the_10 = breaks refl
 
 -- the 1/2 of the index: of flows 1000000 and 2000003 by method 1 with p 9250 it is 3583, and exactly 3583.33..
@@ -104,5 +105,5 @@ abbrev flood : List (Option ℕ)
 flood = some 1000000 ∷ some 2000003 ∷ []
 
 the_half : Close (quotient (multiple 10 (multiple 2 (filter_limit usual 1))) 3000003) (index rounded (rounded_days usual flood)) (index exact (exact_days usual flood)) → ⊥
-unfolding whole half sum opposite difference surplus multiple quotient least limit_of filtered over_segments method_of weights start step recursive thousandths weighted near filter_limit outside base_days flow_total base_total index
+unfolding whole half sum opposite difference surplus multiple quotient least limit_of filtered over_first method_of weights start step recursive thousandths weighted near filter_limit outside base_days flow_total base_total index
 the_half = breaks refl

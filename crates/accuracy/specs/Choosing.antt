@@ -15,17 +15,17 @@ use Rattle.accuracy.specs.declared.Choice.TheVariants.{Filter, Line}
 
 -- the causes of refusal of the call
 abbrev pub chosen_causes : Choice → (days base : List ℕ) → List Cause
-chosen_causes (Filter s n) days base = filter_causes s n days base
+chosen_causes (Filter s n from) days base = filter_causes s n from days base
 chosen_causes (Line s) days base = line_causes s days base
 
 -- the base flow over a list with gaps, in any arithmetic
 abbrev pub chosen_run : (S : Arithmetic) → Choice → List (Option ℕ) → List (Option S.Number)
-chosen_run S (Filter s n) days = filtered S s n days
+chosen_run S (Filter s n from) days = filtered S s n from days
 chosen_run S (Line s) days = line_over S (blocks_of s) days
 
--- P, the daily limit: n × d / (2 × (d - A)) after pass n, 1/2 for the line
+-- P, the daily limit: n × d / (2 × (d - A)) after pass n, from any start, 1/2 for the line
 abbrev pub chosen_limit : Choice → Fraction
-chosen_limit (Filter s n) = filter_limit s n
+chosen_limit (Filter s n from) = filter_limit s n
 chosen_limit (Line s) = half
 
 -- the base flow of the rounded run over a day list, and of the exact run over the same list

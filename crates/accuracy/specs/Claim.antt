@@ -8,6 +8,7 @@ use Rattle.series.specs.Causes.{first_cause, accepted, refused}
 use Rattle.series.specs.Agreement.{Agree}
 use Rattle.record.specs.Call.{Stated, reading}
 use Rattle.filter.specs.declared.Setting.{Setting}
+use Rattle.filter.specs.declared.start.Start.TheVariants.{Usual}
 use Rattle.filter.specs.Passes.{filtered}
 use Rattle.filter.specs.Daily.{fresh}
 use Rattle.filter.specs.Call.{steps_from}
@@ -24,14 +25,14 @@ use Rattle.accuracy.specs.Call.{front, Run}
 abbrev pub record_flow : Choice → List ℕ → ℕ
 record_flow choice days = flow_total (base_days (map day_of days) (rounded_base choice days))
 
--- daily steps from the fresh state give what pass 1 gives, and keep its distance
+-- daily steps from the fresh state give what pass 1 gives from the usual start, and keep its distance
 pub record StepsWithin (s : Setting) (days : List ℕ) : Type 0 where
-  pub pass_1 : steps_from s fresh days ≡ map accepted (filtered rounded s 1 (map day_of days))
-  pub distance : Each (Agree (filter_limit s 1)) (map day_of days) (filtered rounded s 1 (map day_of days)) (filtered exact s 1 (map day_of days))
+  pub pass_1 : steps_from s fresh days ≡ map accepted (filtered rounded s 1 Usual (map day_of days))
+  pub distance : Each (Agree (filter_limit s 1)) (map day_of days) (filtered rounded s 1 Usual (map day_of days)) (filtered exact s 1 Usual (map day_of days))
 
 -- what is said of daily steps for a choice: a line has none
 abbrev pub ChosenSteps : Choice → List ℕ → Type 0
-ChosenSteps (Filter s n) days = StepsWithin s days
+ChosenSteps (Filter s n from) days = StepsWithin s days
 ChosenSteps (Line s) days = Unit {0}
 
 -- The claim over days and a choice, with P its daily limit: of the rounded run and the exact run over them, and of nothing

@@ -8,7 +8,7 @@ ghost use Rattle.accuracy.specs.Choosing.{chosen_causes, base_list};
 ghost use Rattle.accuracy.specs.Call.{base_flow_over, base_flow_leaves, run, base_flow_of, run_of};
 ghost use Rattle.accuracy.specs.Claim.{Demand3};
 
-use filter::Setting;
+use filter::{Setting, Start};
 use minima::LineSetting;
 use record::Reply;
 use series::Refusal;
@@ -17,7 +17,11 @@ use totals::Totals;
 // How base flow is to be found.
 #[derive(Clone, Copy, Debug, PartialEq, Eq)]
 pub enum Choice {
-    Filter { setting: Setting, passes: u32 },
+    Filter {
+        setting: Setting,
+        passes: u32,
+        start: Start,
+    },
     Line(LineSetting),
 }
 
@@ -75,7 +79,11 @@ fn base_flow(choice: Choice, days: &[u32], base: &mut [u64]) -> Result<(), Refus
     ensures base_after { base.new ≡ leaves (chosen_causes choice days.now base.old) (base_list choice days.now) base.old }
 {
     match choice {
-        Choice::Filter { setting, passes } => filter::filter(setting, passes, days, base),
+        Choice::Filter {
+            setting,
+            passes,
+            start,
+        } => filter::filter(setting, passes, start, days, base),
         Choice::Line(setting) => minima::line(setting, days, base),
     }
 }

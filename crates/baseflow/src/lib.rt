@@ -10,6 +10,7 @@ mod over_bits;
 ghost use Rattle.std.specs.Prelude.{◌≡◌, length};
 ghost use Rattle.series.specs.Causes.{refusal_of, first_cause};
 ghost use Rattle.record.specs.Call.{reading, reply_of, read_leaves};
+ghost use Rattle.filter.specs.declared.start.Start.TheVariants.{Usual, Given};
 ghost use Rattle.filter.specs.Call.{filter_causes, filter_leaves, step_rule};
 ghost use Rattle.minima.specs.Call.{line_causes, line_leaves};
 ghost use Rattle.staggered.specs.Call.{staggered_causes, base_leaves, work_leaves};
@@ -20,11 +21,12 @@ ghost use Rattle.half_life.specs.Call.{half_life_outcome};
 ghost use Rattle.meter.specs.Call.{meter_outcome};
 ghost use Rattle.baseflow.specs.Interface.{returned, returned_cause, handed_out, setting_of, line_setting_of, state_of, state_numbers, value_out, state_out};
 
-use filter::{DailyFilter, Setting, Yesterday};
+use filter::{DailyFilter, Setting, Start, Yesterday};
 use minima::LineSetting;
 pub use over_bits::{
-    baseflow_bfimax_bits, baseflow_filter_bits, baseflow_from_bits, baseflow_line_bits,
-    baseflow_recession_bits, baseflow_staggered_bits, baseflow_to_bits, baseflow_totals_bits,
+    baseflow_bfimax_bits, baseflow_filter_bits, baseflow_filter_from_bits, baseflow_from_bits,
+    baseflow_line_bits, baseflow_recession_bits, baseflow_staggered_bits, baseflow_to_bits,
+    baseflow_totals_bits,
 };
 use series::Refusal;
 
@@ -71,11 +73,29 @@ pub fn baseflow_filter(
     days: &[u32],
     base: &mut [u64],
 ) -> u32
-    ensures value { result ≡ returned_cause (first_cause (filter_causes (setting_of method p q s) passes days.now base.old)) }
-    ensures base_after { base.new ≡ filter_leaves (setting_of method p q s) passes days.now base.old }
+    ensures value { result ≡ returned_cause (first_cause (filter_causes (setting_of method p q s) passes Usual days.now base.old)) }
+    ensures base_after { base.new ≡ filter_leaves (setting_of method p q s) passes Usual days.now base.old }
 {
     let setting = Setting { method, p, q, s };
-    number(filter::filter(setting, passes, days, base))
+    number(filter::filter(setting, passes, Start::Usual, days, base))
+}
+
+// The same, from a start that is given for the first segment.
+pub fn baseflow_filter_from(
+    method: u32,
+    p: u32,
+    q: u32,
+    s: i32,
+    passes: u32,
+    start: u64,
+    days: &[u32],
+    base: &mut [u64],
+) -> u32
+    ensures value { result ≡ returned_cause (first_cause (filter_causes (setting_of method p q s) passes (Given start) days.now base.old)) }
+    ensures base_after { base.new ≡ filter_leaves (setting_of method p q s) passes (Given start) days.now base.old }
+{
+    let setting = Setting { method, p, q, s };
+    number(filter::filter(setting, passes, Start::Given(start), days, base))
 }
 
 // Base flow of a day list by the minima line.

@@ -2,12 +2,13 @@
 ghost use Rattle.std.specs.Prelude.{◌≡◌};
 ghost use Rattle.series.specs.Causes.{first_cause};
 ghost use Rattle.bfimax.specs.Call.{spell_of};
+ghost use Rattle.filter.specs.declared.start.Start.TheVariants.{Usual, Given};
 ghost use Rattle.presence.specs.Call.{to_bits_outcome, flows_left, words_left, from_bits_outcome, days_left};
 ghost use Rattle.bits.specs.Calls.{filter_bits_causes, filter_bits_leaves, line_bits_causes, line_bits_leaves, staggered_bits_causes, base_bits_leaves, work_bits_leaves, totals_bits_outcome, ratio_bits_outcome, ratio_bits_leaves, bfimax_bits_outcome, bfimax_bits_leaves};
 ghost use Rattle.baseflow.specs.Interface.{returned, returned_cause, handed_out, setting_of, line_setting_of};
 
 use crate::number;
-use filter::Setting;
+use filter::{Setting, Start};
 use minima::LineSetting;
 
 // The flows and presence words of a day list.
@@ -57,11 +58,30 @@ pub fn baseflow_filter_bits(
     words: &[u64],
     base: &mut [u64],
 ) -> u32
-    ensures value { result ≡ returned_cause (first_cause (filter_bits_causes (setting_of method p q s) passes flows.now words.now base.old)) }
-    ensures base_after { base.new ≡ filter_bits_leaves (setting_of method p q s) passes flows.now words.now base.old }
+    ensures value { result ≡ returned_cause (first_cause (filter_bits_causes (setting_of method p q s) passes Usual flows.now words.now base.old)) }
+    ensures base_after { base.new ≡ filter_bits_leaves (setting_of method p q s) passes Usual flows.now words.now base.old }
 {
     let setting = Setting { method, p, q, s };
-    number(bits::filter(setting, passes, flows, words, base))
+    number(bits::filter(setting, passes, Start::Usual, flows, words, base))
+}
+
+// The same, from a start that is given for the first segment.
+pub fn baseflow_filter_from_bits(
+    method: u32,
+    p: u32,
+    q: u32,
+    s: i32,
+    passes: u32,
+    start: u64,
+    flows: &[u32],
+    words: &[u64],
+    base: &mut [u64],
+) -> u32
+    ensures value { result ≡ returned_cause (first_cause (filter_bits_causes (setting_of method p q s) passes (Given start) flows.now words.now base.old)) }
+    ensures base_after { base.new ≡ filter_bits_leaves (setting_of method p q s) passes (Given start) flows.now words.now base.old }
+{
+    let setting = Setting { method, p, q, s };
+    number(bits::filter(setting, passes, Start::Given(start), flows, words, base))
 }
 
 // Base flow by the minima line, over flows and presence words.

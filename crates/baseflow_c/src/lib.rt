@@ -8,6 +8,7 @@ mod over_bits;
 ghost use Rattle.std.specs.Prelude.{◌≡◌, length};
 ghost use Rattle.series.specs.Causes.{first_cause};
 ghost use Rattle.record.specs.Call.{reading, reply_of, read_leaves};
+ghost use Rattle.filter.specs.declared.start.Start.TheVariants.{Usual, Given};
 ghost use Rattle.filter.specs.Call.{filter_causes, filter_leaves, step_rule};
 ghost use Rattle.minima.specs.Call.{line_causes, line_leaves};
 ghost use Rattle.staggered.specs.Call.{staggered_causes, base_leaves, work_leaves};
@@ -45,10 +46,28 @@ pub extern "C" fn baseflow_filter(
     days: &[u32],
     base: &mut [u64],
 ) -> u32
-    ensures value { result ≡ returned_cause (first_cause (filter_causes (setting_of method p q s) passes days.now base.old)) }
-    ensures base_after { base.new ≡ filter_leaves (setting_of method p q s) passes days.now base.old }
+    ensures value { result ≡ returned_cause (first_cause (filter_causes (setting_of method p q s) passes Usual days.now base.old)) }
+    ensures base_after { base.new ≡ filter_leaves (setting_of method p q s) passes Usual days.now base.old }
 {
     baseflow::baseflow_filter(method, p, q, s, passes, days, base)
+}
+
+// The same, from a start that is given for the first segment.
+#[unsafe(no_mangle)]
+pub extern "C" fn baseflow_filter_from(
+    method: u32,
+    p: u32,
+    q: u32,
+    s: i32,
+    passes: u32,
+    start: u64,
+    days: &[u32],
+    base: &mut [u64],
+) -> u32
+    ensures value { result ≡ returned_cause (first_cause (filter_causes (setting_of method p q s) passes (Given start) days.now base.old)) }
+    ensures base_after { base.new ≡ filter_leaves (setting_of method p q s) passes (Given start) days.now base.old }
+{
+    baseflow::baseflow_filter_from(method, p, q, s, passes, start, days, base)
 }
 
 // Base flow of a day list by the minima line.

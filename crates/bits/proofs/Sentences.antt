@@ -8,6 +8,7 @@ use mathlib.Core.Bool.{false}
 use mathlib.Core.List.{List, [], ◌∷◌, map}
 use Rattle.series.specs.Causes.{Cause, first_cause}
 use Rattle.filter.specs.declared.Setting.{Setting}
+use Rattle.filter.specs.declared.start.Start.{Start}
 use Rattle.filter.specs.Call.{filter_causes}
 use Rattle.filter.proofs.Order.{filter_at_10}
 use Rattle.minima.specs.declared.LineSetting.{LineSetting}
@@ -28,9 +29,9 @@ use Rattle.bits.proofs.OverForm.{over_valid}
 
 -- a form that converts
 module _ (flows words : List ℕ) (valid : is_invalid_form flows words ≡ false) (flows_valid : is_invalid_flow flows words ≡ false) where
-  pub filter_over_valid_form : (s : Setting) (passes : ℕ) (base : List ℕ) → first_cause (filter_bits_causes s passes flows words base) ≡ first_cause (filter_causes s passes (days_of flows words) base)
+  pub filter_over_valid_form : (s : Setting) (passes : ℕ) (from : Start) (base : List ℕ) → first_cause (filter_bits_causes s passes from flows words base) ≡ first_cause (filter_causes s passes from (days_of flows words) base)
   unfolding filter_bits_causes
-  filter_over_valid_form s passes base = over_valid (filter_at_10 s passes base) flows words valid flows_valid
+  filter_over_valid_form s passes from base = over_valid (filter_at_10 s passes from base) flows words valid flows_valid
 
   pub line_over_valid_form : (s : LineSetting) (base : List ℕ) → first_cause (line_bits_causes s flows words base) ≡ first_cause (line_causes s (days_of flows words) base)
   unfolding line_bits_causes
@@ -57,9 +58,9 @@ abbrev pub numbers : List Cause → List ℕ
 numbers causes = map (λ c. c.number) causes
 
 module _ (flows words base : List ℕ) where
-  pub filter_order : (s : Setting) (passes : ℕ) → numbers (filter_bits_causes s passes flows words base) ≡ 11 ∷ 12 ∷ 13 ∷ 9 ∷ 14 ∷ 28 ∷ 10 ∷ []
+  pub filter_order : (s : Setting) (passes : ℕ) (from : Start) → numbers (filter_bits_causes s passes from flows words base) ≡ 11 ∷ 12 ∷ 13 ∷ 9 ∷ 14 ∷ 28 ∷ 10 ∷ 29 ∷ []
   unfolding filter_bits_causes over_form with_28 filter_causes
-  filter_order s passes = refl
+  filter_order s passes from = refl
 
   pub line_order : (s : LineSetting) → numbers (line_bits_causes s flows words base) ≡ 16 ∷ 9 ∷ 14 ∷ 28 ∷ 10 ∷ 17 ∷ []
   unfolding line_bits_causes over_form with_28 line_causes

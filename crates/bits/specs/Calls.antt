@@ -4,6 +4,7 @@ use Rattle.std.specs.Prelude.{ℕ, List, length}
 use Rattle.numbers.specs.Arithmetic.{rounded}
 use Rattle.series.specs.Causes.{Cause, Outcome, outcome, leaves}
 use Rattle.filter.specs.declared.Setting.{Setting}
+use Rattle.filter.specs.declared.start.Start.{Start}
 use Rattle.filter.specs.Call.{filter_causes, filtered_list}
 use Rattle.minima.specs.declared.LineSetting.{LineSetting}
 use Rattle.minima.specs.Call.{blocks_of, line_causes, line_list}
@@ -18,12 +19,12 @@ use Rattle.bfimax.specs.Call.{Spell, spell, bfimax_causes, spell_list}
 use Rattle.presence.specs.Form.{days_of}
 use Rattle.bits.specs.Order.{over_form}
 
--- order: filter 11, 12, 13, 9, 14, 28, 10
-unfoldable pub filter_bits_causes : Setting → (passes : ℕ) → (flows words base : List ℕ) → List Cause
-filter_bits_causes s n flows words base = over_form flows words (filter_causes s n (days_of flows words) base)
+-- order: filter 11, 12, 13, 9, 14, 28, 10, 29
+unfoldable pub filter_bits_causes : Setting → (passes : ℕ) → Start → (flows words base : List ℕ) → List Cause
+filter_bits_causes s n from flows words base = over_form flows words (filter_causes s n from (days_of flows words) base)
 
-abbrev pub filter_bits_leaves : Setting → (passes : ℕ) → (flows words base : List ℕ) → List ℕ
-filter_bits_leaves s n flows words base = leaves (filter_bits_causes s n flows words base) (filtered_list s n (days_of flows words)) base
+abbrev pub filter_bits_leaves : Setting → (passes : ℕ) → Start → (flows words base : List ℕ) → List ℕ
+filter_bits_leaves s n from flows words base = leaves (filter_bits_causes s n from flows words base) (filtered_list s n from (days_of flows words)) base
 
 -- order: line 16, 9, 14, 28, 10, 17
 unfoldable pub line_bits_causes : LineSetting → (flows words base : List ℕ) → List Cause

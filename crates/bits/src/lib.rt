@@ -11,7 +11,7 @@ ghost use Rattle.bfimax.specs.Call.{spell, spell_of, Promised as BfimaxPromised}
 ghost use Rattle.presence.specs.Form.{days_of};
 ghost use Rattle.bits.specs.Calls.{filter_bits_causes, filter_bits_leaves, line_bits_causes, line_bits_leaves, staggered_bits_causes, base_bits_leaves, work_bits_leaves, totals_bits_outcome, ratio_bits_outcome, ratio_bits_leaves, bfimax_bits_outcome, bfimax_bits_leaves};
 
-use filter::Setting;
+use filter::{Setting, Start};
 use form::over_form;
 use minima::LineSetting;
 use recession::Statistics;
@@ -22,19 +22,20 @@ use totals::Totals;
 pub fn filter(
     setting: Setting,
     passes: u32,
+    start: Start,
     flows: &[u32],
     words: &[u64],
     base: &mut [u64],
 ) -> Result<(), Refusal>
-    ensures refusal { refusal_of result ≡ first_cause (filter_bits_causes setting passes flows.now words.now base.old) }
-    ensures base_list { base.new ≡ filter_bits_leaves setting passes flows.now words.now base.old }
+    ensures refusal { refusal_of result ≡ first_cause (filter_bits_causes setting passes start flows.now words.now base.old) }
+    ensures base_list { base.new ≡ filter_bits_leaves setting passes start flows.now words.now base.old }
 {
     over_form(
         flows,
         words,
         base,
         &mut [(); 0],
-        |days, base, _| filter::filter(setting, passes, days, base),
+        |days, base, _| filter::filter(setting, passes, start, days, base),
     )
 }
 

@@ -3,8 +3,8 @@
 use Prim.Native.Nat.{ℕ, ◌≤◌}
 use mathlib.Core.Path.{◌≡◌, refl, sym, ◌∙◌}
 use mathlib.Core.Bool.{false}
-use mathlib.Core.List.{List}
-use mathlib.Core.Option.{none, some}
+use mathlib.Core.List.{List, map}
+use mathlib.Core.Option.{Option, none, some}
 use lib.IntN.{pos}
 use lib.ListN.{length}
 use borrow.Author.Tests.{eq-eqb}
@@ -15,8 +15,10 @@ use Rattle.series.proofs.Views.{lies_within}
 use Rattle.series.proofs.Tests.{same_length, not_different}
 use Rattle.series.proofs.Refusing.{passed, outcome_refused, outcome_accepted, leaves_refused, leaves_accepted}
 use Rattle.filter.specs.declared.Setting.{Setting}
+use Rattle.filter.specs.declared.start.Start.{Start}
+use Rattle.filter.specs.declared.start.Start.TheVariants.{Usual}
 use Rattle.filter.specs.declared.DailyFilter.{DailyFilter}
-use Rattle.filter.specs.Methods.{method_of, unknown_method, out_of_range, spans, in_range, invalid_passes, Usable}
+use Rattle.filter.specs.Methods.{method_of, unknown_method, out_of_range, spans, in_range, invalid_passes, start_too_high, Usable}
 use Rattle.filter.specs.Daily.{invalid_yesterday, base_on, state_after}
 use Rattle.filter.proofs.Days.{Advance, value_shown}
 use Rattle.filter.specs.Call.{filter_causes, filtered_list, filter_leaves, step_causes, step_rule}
@@ -31,34 +33,40 @@ pub one_pass : (s : Setting) → invalid_passes s 1 ≡ false
 unfolding invalid_passes
 one_pass s = refl
 
+-- the usual start is never too high
+pub usual_start : (days : List (Option ℕ)) → start_too_high Usual days ≡ false
+unfolding start_too_high
+usual_start days = refl
+
 -- the filter accepts exactly if
-pub record FilterAccepts (s : Setting) (n : ℕ) (days base : List ℕ) : Type 0 where
+pub record FilterAccepts (s : Setting) (n : ℕ) (from : Start) (days base : List ℕ) : Type 0 where
   pub usable : Usable s
   pub passes : invalid_passes s n ≡ false
   pub few : too_long days ≡ false
   pub same_length : length days ≡ length base
   pub valid : any_invalid_day days ≡ false
+  pub start : start_too_high from (map day_of days) ≡ false
 
-module _ {s : Setting} {n : ℕ} {days base : List ℕ} where
-  pub filter_accepts : FilterAccepts s n days base → first_cause (filter_causes s n days base) ≡ none
+module _ {s : Setting} {n : ℕ} {from : Start} {days base : List ℕ} where
+  pub filter_accepts : FilterAccepts s n from days base → first_cause (filter_causes s n from days base) ≡ none
   unfolding filter_causes
-  filter_accepts a = simp (a.usable.known, a.usable.in_range, a.passes, a.few, not_different days base a.same_length, a.valid)
+  filter_accepts a = simp (a.usable.known, a.usable.in_range, a.passes, a.few, not_different days base a.same_length, a.valid, a.start)
 
-module _ (s : Setting) (n : ℕ) (days base : List ℕ) where
-  pub filter_accepted : first_cause (filter_causes s n days base) ≡ none → FilterAccepts s n days base
+module _ (s : Setting) (n : ℕ) (from : Start) (days base : List ℕ) where
+  pub filter_accepted : first_cause (filter_causes s n from days base) ≡ none → FilterAccepts s n from days base
   unfolding filter_causes
   filter_accepted e =
-      let p = passed (filter_causes s n days base) e in
-      record { usable = record { known = p 11; in_range = p 12 }; passes = p 13; few = p 9; same_length = same_length days base (p 14); valid = p 10 }
+      let p = passed (filter_causes s n from days base) e in
+      record { usable = record { known = p 11; in_range = p 12 }; passes = p 13; few = p 9; same_length = same_length days base (p 14); valid = p 10; start = p 29 }
 
   -- what it leaves
-  pub leaves_filtered : first_cause (filter_causes s n days base) ≡ none → filter_leaves s n days base ≡ filtered_list s n days
+  pub leaves_filtered : first_cause (filter_causes s n from days base) ≡ none → filter_leaves s n from days base ≡ filtered_list s n from days
   unfolding filter_leaves
-  leaves_filtered e = leaves_accepted (filter_causes s n days base) _ base e
+  leaves_filtered e = leaves_accepted (filter_causes s n from days base) _ base e
 
-  pub leaves_as_it_was : {k : ℕ} → first_cause (filter_causes s n days base) ≡ some k → filter_leaves s n days base ≡ base
+  pub leaves_as_it_was : {k : ℕ} → first_cause (filter_causes s n from days base) ≡ some k → filter_leaves s n from days base ≡ base
   unfolding filter_leaves
-  leaves_as_it_was e = leaves_refused (filter_causes s n days base) _ base e
+  leaves_as_it_was e = leaves_refused (filter_causes s n from days base) _ base e
 
 -- the step accepts exactly if
 pub record StepAccepts (s : Setting) (st : DailyFilter) (day : ℕ) : Type 0 where

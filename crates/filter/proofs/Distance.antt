@@ -1,26 +1,32 @@
 -- The distance of the rounded run from the exact run: one law over all methods, settings, passes and lists with gaps.
 -- Assumes nothing.
-use Prim.Native.Nat.{ℕ, zero, suc, ◌+◌, ◌*◌, ◌-◌, ◌≤◌, ◌<◌}
-use mathlib.Core.Path.{◌≡◌, ◌∙◌, subst}
+use Prim.Native.Nat.{ℕ, zero, suc, ◌+◌, ◌*◌, ◌-◌, ◌≤◌, ◌<◌, min}
+use mathlib.Core.Path.{◌≡◌, refl, sym, ◌∙◌, ap, subst}
 use mathlib.Core.Bool.{false}
 use mathlib.Core.List.{List, [], ◌∷◌, map, reverse-reverse}
 use mathlib.Core.Option.{Option, none, some}
-use native.Mathlib.Nat.{mul-le-mul_left, min-le_left, le_trans}
+use native.Mathlib.Nat.{mul-le-mul_left, min-le_left, min-le_right, le_trans}
 use native.Mathlib.Omega.{arith}
 use Rattle.numbers.specs.Fraction.{Fraction, AtMost}
-use Rattle.numbers.specs.Arithmetic.{Close, Weights, rounded, exact}
+use borrow.Author.Tests.{ltb-false}
+use Rattle.numbers.specs.Arithmetic.{Arithmetic, Close, Weights, rounded, exact}
+use Rattle.numbers.specs.Scan.{onward}
 use Rattle.numbers.specs.Lists.{Each, done, then}
 use Rattle.numbers.proofs.Fractions.{close_least, close_weaken, step_error, close_weighted}
 use Rattle.numbers.proofs.Quantities.{Reads, reads_whole, reads_half, reads_quotient, reads_error, at_most, close_exact, close_near}
 use Rattle.numbers.proofs.Pairwise.{each_reverse}
-use Rattle.numbers.proofs.Recursion.{together}
+use Rattle.numbers.proofs.Recursion.{together, recursive_first}
 use Rattle.series.specs.Agreement.{Agree, no_value, values}
-use Rattle.series.proofs.Gaps.{over_each}
+use Rattle.series.specs.Segments.{first_present}
+use Rattle.series.proofs.Gaps.{first_each}
+use Rattle.series.proofs.Firsts.{first_same}
 use Rattle.filter.specs.declared.Setting.{Setting}
+use Rattle.filter.specs.declared.start.Start.{Start}
+use Rattle.filter.specs.declared.start.Start.TheVariants.{Usual, Given}
 use Rattle.filter.specs.declared.method.Method.{Method}
 use Rattle.filter.specs.declared.method.Method.TheVariants.{LyneHollick, Chapman1991, ChapmanMaxwell, Boughton, Eckhardt, TularamIlahee, JakemanHornberger}
-use Rattle.filter.specs.Methods.{method_of, weights, method_start, start, invalid_passes, Usable}
-use Rattle.filter.specs.Passes.{step, thousandths, later_day, first_pass, forward_pass, backward_pass, passes, filtered}
+use Rattle.filter.specs.Methods.{method_of, weights, method_start, start, invalid_passes, above_flow, start_too_high, Usable}
+use Rattle.filter.specs.Passes.{step, thousandths, later_day, first_pass, forward_pass, backward_pass, passes, first_start, filtered}
 use Rattle.filter.specs.Distance.{limit_of, filter_limit}
 use Rattle.filter.proofs.Table.{row, start_below, passes_range, Mean, passes_mean}
 
@@ -122,6 +128,24 @@ module _ {s : Setting} (u : Usable s) (first : ℕ → ℕ) (first̂ : ℕ → F
       present done = done
       present (then {a = y} {b} {c = f} a d) = then (r y b f a.0 a.1) (present d)
 
+-- of a start a segment sees its value on the first day alone
+pub same_passes : (S : Arithmetic) (s : Setting) (first first' : ℕ → S.Number) (n y : ℕ) (flows : List ℕ) → first y ≡ first' y → passes S s first n (y ∷ flows) ≡ passes S s first' n (y ∷ flows)
+unfolding passes first_pass
+same_passes S s first first' n y flows e = by_passes n
+  where
+    one : first_pass S s first (y ∷ flows) ≡ first_pass S s first' (y ∷ flows)
+    one = recursive_first (later_day S s) first y flows ∙ ap (λ f. f ∷ onward (later_day S s) f y flows) e ∙ sym (recursive_first (later_day S s) first' y flows)
+
+    by_passes : (n : ℕ) → passes S s first n (y ∷ flows) ≡ passes S s first' n (y ∷ flows)
+    by_passes zero = refl
+    by_passes (suc zero) = one
+    by_passes (suc (suc zero)) = ap (backward_pass S s) one
+    by_passes (suc (suc (suc n))) = ap (λ us. forward_pass S s (backward_pass S s us)) one
+
+lower : (value y : ℕ) → above_flow (some y) value ≡ false → value ≡ min value (1000 * y)
+unfolding above_flow
+lower value y e = omega (arith, ltb-false (1000 * y) value e)
+
 module _ {s : Setting} (u : Usable s) where
   pub reads_filter_limit : (n : ℕ) → Reads (filter_limit s n) (n * (weights s).d) (2 * ((weights s).d - (weights s).A))
   unfolding filter_limit
@@ -145,9 +169,25 @@ module _ {s : Setting} (u : Usable s) where
   -- on every list with gaps of any length, after each pass: what holds of a missing day, and of a present day's values by
   -- their distance
   pub filter_each : (n : ℕ) → invalid_passes s n ≡ false → (R : Option ℕ → Option ℕ → Option Fraction → Type 0) → R none none none
-      → ((y b : ℕ) (f : Fraction) → b ≤ 1000 * y → Close (filter_limit s n) b f → R (some y) (some b) (some f)) → (days : List (Option ℕ)) → Each R days (filtered rounded s n days) (filtered exact s n days)
-  unfolding filtered
-  filter_each n v R gap r days = over_each R gap _ _ (segment_each u (start rounded s) (start exact s) (start_below u) start_close n v r) days
+      → ((y b : ℕ) (f : Fraction) → b ≤ 1000 * y → Close (filter_limit s n) b f → R (some y) (some b) (some f))
+      → (from : Start) (days : List (Option ℕ)) → start_too_high from days ≡ false → Each R days (filtered rounded s n from days) (filtered exact s n from days)
+  unfolding filtered first_start start_too_high
+  filter_each n v R gap r from days h = by_start from h
+    where
+      usual : (flows : List ℕ) → Each R (map some flows) (map some (passes rounded s (start rounded s) n flows)) (map some (passes exact s (start exact s) n flows))
+      usual = segment_each u (start rounded s) (start exact s) (start_below u) start_close n v r
 
-  pub filter_distance : (n : ℕ) → invalid_passes s n ≡ false → (days : List (Option ℕ)) → Each (Agree (filter_limit s n)) days (filtered rounded s n days) (filtered exact s n days)
+      by_start : (from : Start) → start_too_high from days ≡ false → Each R days (filtered rounded s n from days) (filtered exact s n from days)
+      by_start Usual h = first_each R gap _ _ _ _ usual usual days
+      -- on the first segment it lies at or below the flow
+      by_start (Given value) h =
+          let low : ℕ → ℕ = λ y. min value (1000 * y) in
+          let same : (y : ℕ) → first_present days ≡ some y → value ≡ low y = λ y e. lower value y (ap (λ o. above_flow o value) (sym e) ∙ h) in
+          rw (
+            first_same _ (λ flows. map some (passes rounded s (λ y. value) n flows)) (λ flows. map some (passes rounded s low n flows)) days (λ y flows e. ap (map some) (same_passes rounded s (λ y. value) low n y flows (same y e))),
+            first_same _ (λ flows. map some (passes exact s (λ y. exact.number value) n flows)) (λ flows. map some (passes exact s (λ y. exact.number (low y)) n flows)) days (λ y flows e. ap (map some) (same_passes exact s (λ y. exact.number value) (λ y. exact.number (low y)) n y flows (ap exact.number (same y e)))),
+          )
+          (first_each R gap _ _ _ _ (segment_each u low (λ y. exact.number (low y)) (λ y. min-le_right value (1000 * y)) (λ y. close_exact (low y) (reads_filter_limit 1)) n v r) usual days)
+
+  pub filter_distance : (n : ℕ) → invalid_passes s n ≡ false → (from : Start) (days : List (Option ℕ)) → start_too_high from days ≡ false → Each (Agree (filter_limit s n)) days (filtered rounded s n from days) (filtered exact s n from days)
   filter_distance n v = filter_each n v (Agree (filter_limit s n)) no_value (λ y b f h c. values h c)

@@ -22,8 +22,8 @@ use Rattle.std.specs.Prelude as Code
 use Rattle.series.specs.Units.{no_value_mark}
 use Rattle.series.proofs.Views.{base_none, base_value, mark_none, mark_value}
 use Rattle.filter.specs.Passes.{step}
-use Rattle.filter.specs.Daily.{fresh, invalid_yesterday}
-use Rattle.filter.specs.Private.{Small, SmallBase, SmallList, SmallPrevious, day_state, day_mark, first_run, output, previous_after, output_on, pass_state, pass_mark, forward_run}
+use Rattle.filter.specs.Daily.{invalid_yesterday}
+use Rattle.filter.specs.Private.{Small, SmallBase, SmallList, SmallPrevious, day_state, day_mark, steps_run, output, previous_after, output_on, pass_state, pass_mark, forward_run}
 use Rattle.filter.proofs.MethodNumbers.{step_below}
 use Rattle.filter.proofs.Days.{Advance}
 
@@ -32,31 +32,22 @@ small_set : (base : List ℕ) (i b : ℕ) → SmallBase b → (j : ℕ) → (i <
 small_set base i b h j l k =
     by_cases (ℕ_discrete j i) (λ e. subst SmallBase (sym (ap (λ n. get_or (set base i b) n 0) e ∙ get_or-set_same base i b 0 l)) h) (λ n. subst SmallBase (sym (get_or-set_other base i j b 0 n)) (k n))
 
--- pass 1
-module _ (s : Setting) (days : List ℕ) where
-  pub record FirstPass (base : List ℕ) (st : DailyFilter) (i : ℕ) : Type 0 where
-    pub so_far : take i base ++ scan (day_state s) (day_mark s) st (drop i days) ≡ first_run s days
+-- steps from a state
+module _ (s : Setting) (from : DailyFilter) (days : List ℕ) where
+  pub record Steps (base : List ℕ) (st : DailyFilter) (i : ℕ) : Type 0 where
+    pub so_far : take i base ++ steps_run s st (drop i days) ≡ steps_run s from days
     pub valid : invalid_yesterday st.yesterday ≡ false
-    pub small : (j : ℕ) → j < i → SmallBase (get_or base j 0)
 
-  pub first_start : (base : List ℕ) {st : DailyFilter} → st ≡ fresh → FirstPass base st 0
-  unfolding first_run invalid_yesterday
-  first_start base e =
-      record { so_far = ap (λ x. scan (day_state s) (day_mark s) x days) e; valid = ap (λ x. invalid_yesterday x.yesterday) e; small = λ j h. absurd (omega arith) }
+  pub steps_start : (base : List ℕ) → invalid_yesterday from.yesterday ≡ false → Steps base from 0
+  steps_start base v = record { so_far = refl; valid = v }
 
-  pub first_turn : {base : List ℕ} {st st' : DailyFilter} {i b : ℕ} → i < length days → i < length base → FirstPass base st i → Advance s st (get_or days i 0) st' b → FirstPass (set base i b) st' (i + 1)
-  first_turn {base} {st} {i = i} {b} h l f a =
-      record {
-        so_far = into_turn (day_state s) (day_mark s) days 0 base i st h l a.0.1 a.0.0 ∙ f.so_far;
-        valid = a.1.0;
-        small = λ j k. small_set base i b a.1.1 j l (λ n. f.small j (omega arith));
-      }
+  pub steps_turn : {base : List ℕ} {st st' : DailyFilter} {i b : ℕ} → i < length days → i < length base → Steps base st i → Advance s st (get_or days i 0) st' b → Steps (set base i b) st' (i + 1)
+  unfolding steps_run
+  steps_turn {base} {st} {i = i} h l f a = record { so_far = into_turn (day_state s) (day_mark s) days 0 base i st h l a.0.1 a.0.0 ∙ f.so_far; valid = a.1.0 }
 
-  pub first_end : {base : List ℕ} {st : DailyFilter} {i : ℕ} → length days ≤ i → length base ≤ i → FirstPass base st i → (base ≡ first_run s days) × SmallList base
-  first_end {base} {st} {i} h l f = (
-    sym (into_end (day_state s) (day_mark s) days 0 base i st h l) ∙ f.so_far,
-    λ j. by_cases (dec_le (length base) j) (λ k. subst SmallBase (sym (get_or-eq_default base 0 k)) (inr (omega arith))) (λ k. f.small j (omega (arith, lt_of_not-le k))),
-  )
+  pub steps_end : {base : List ℕ} {st : DailyFilter} {i : ℕ} → length days ≤ i → length base ≤ i → Steps base st i → base ≡ steps_run s from days
+  unfolding steps_run
+  steps_end {base} {st} {i} h l f = sym (into_end (day_state s) (day_mark s) days 0 base i st h l) ∙ f.so_far
 
 -- passes 2 and 3
 abbrev pub PassDay : Weights → Code.Option Previous → ℕ → Code.Option Previous → ℕ → Type 0

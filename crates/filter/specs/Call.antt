@@ -8,31 +8,33 @@ use Rattle.series.specs.Units.{is_invalid_day, day_of, base_of, base_mark}
 use Rattle.series.specs.Causes.{refusal_number, Cause, cause, Outcome, accepted, refused, outcome, leaves}
 use Rattle.series.specs.Lists.{too_long, lengths_differ, any_invalid_day}
 use Rattle.filter.specs.declared.Setting.{Setting}
+use Rattle.filter.specs.declared.start.Start.{Start}
 use Rattle.filter.specs.declared.DailyFilter.{DailyFilter}
 use Rattle.filter.specs.declared.Advanced.{Advanced}
 use Rattle.filter.specs.declared.Refused.{Refused}
-use Rattle.filter.specs.Methods.{unknown_method, out_of_range, invalid_passes}
+use Rattle.filter.specs.Methods.{unknown_method, out_of_range, invalid_passes, start_too_high}
 use Rattle.filter.specs.Passes.{filtered}
 use Rattle.filter.specs.Daily.{invalid_yesterday, base_on, state_after}
 
--- order: filter 11, 12, 13, 9, 14, 10
-unfoldable pub filter_causes : Setting → (passes : ℕ) → (days base : List ℕ) → List Cause
-filter_causes s n days base =
+-- order: filter 11, 12, 13, 9, 14, 10, 29
+unfoldable pub filter_causes : Setting → (passes : ℕ) → Start → (days base : List ℕ) → List Cause
+filter_causes s n from days base =
     cause (unknown_method s) 11
     ∷ cause (out_of_range s) 12
     ∷ cause (invalid_passes s n) 13
     ∷ cause (too_long days) 9
     ∷ cause (lengths_differ days base) 14
     ∷ cause (any_invalid_day days) 10
+    ∷ cause (start_too_high from (map day_of days)) 29
     ∷ []
 
 -- the base list in memory after n accepted passes
-unfoldable pub filtered_list : Setting → (passes : ℕ) → (days : List ℕ) → List ℕ
-filtered_list s n days = map base_mark (filtered rounded s n (map day_of days))
+unfoldable pub filtered_list : Setting → (passes : ℕ) → Start → (days : List ℕ) → List ℕ
+filtered_list s n from days = map base_mark (filtered rounded s n from (map day_of days))
 
 -- the base list at exit: filtered, or as it was after a refusal
-unfoldable pub filter_leaves : Setting → (passes : ℕ) → (days base : List ℕ) → List ℕ
-filter_leaves s n days base = leaves (filter_causes s n days base) (filtered_list s n days) base
+unfoldable pub filter_leaves : Setting → (passes : ℕ) → Start → (days base : List ℕ) → List ℕ
+filter_leaves s n from days base = leaves (filter_causes s n from days base) (filtered_list s n from days) base
 
 -- order: step 11, 12, 15, 10
 unfoldable pub step_causes : Setting → DailyFilter → ℕ → List Cause

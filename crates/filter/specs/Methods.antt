@@ -1,9 +1,13 @@
 -- The seven filters (document 01, "Filters"): a row of the table for each method. A row reads the whole setting.
-use Rattle.std.specs.Prelude.{ℕ, ◌+◌, ◌*◌, ◌-◌, ◌≡◌, Bool, false, cond, not, ◌&&◌, ◌||◌, ltb, leb, eqb, ℤ, pos, ◌*ℤ◌}
+use Rattle.std.specs.Prelude.{ℕ, ◌+◌, ◌*◌, ◌-◌, ◌≡◌, Bool, false, cond, not, ◌&&◌, ◌||◌, ltb, leb, eqb, ℤ, pos, ◌*ℤ◌, List}
+use Rattle.std.proofs.Math.Option.{Option, none, some}
 use Rattle.numbers.specs.Whole.{up, down}
 use Rattle.numbers.specs.Arithmetic.{Arithmetic, Weights, row}
 use Rattle.series.specs.Units.{within}
+use Rattle.series.specs.Segments.{first_present}
 use Rattle.filter.specs.declared.Setting.{Setting}
+use Rattle.filter.specs.declared.start.Start.{Start}
+use Rattle.filter.specs.declared.start.Start.TheVariants.{Usual, Given}
 use Rattle.filter.specs.declared.method.Method.{Method}
 use Rattle.filter.specs.declared.method.Method.TheVariants.{LyneHollick, Chapman1991, ChapmanMaxwell, Boughton, Eckhardt, TularamIlahee, JakemanHornberger}
 
@@ -85,6 +89,16 @@ out_of_range s = not (in_range s)
 pub record Usable (s : Setting) : Type 0 where
   pub known : unknown_method s ≡ false
   pub in_range : out_of_range s ≡ false
+
+-- 29: a start that is given lies above 1000 × the first present flow; where no day is present it is never too high
+unfoldable pub above_flow : Option ℕ → (value : ℕ) → Bool
+above_flow none value = false
+above_flow (some y) value = ltb (1000 * y) value
+
+unfoldable pub start_too_high : Start → (days : List (Option ℕ)) → Bool
+unfolding above_flow
+start_too_high Usual days = false
+start_too_high (Given value) days = above_flow (first_present days) value
 
 -- 13: passes that are not 1, 2 or 3, or are 2 or 3 in another method than 1
 unfoldable pub invalid_passes : Setting → ℕ → Bool

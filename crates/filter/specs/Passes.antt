@@ -5,8 +5,10 @@ use mathlib.Core.List.{List, map, reverse}
 use Rattle.std.proofs.Math.Option.{Option, some}
 use Rattle.numbers.specs.Arithmetic.{Arithmetic, Weights, weighted}
 use Rattle.numbers.specs.Scan.{recursive}
-use Rattle.series.specs.Segments.{over_segments}
+use Rattle.series.specs.Segments.{over_first}
 use Rattle.filter.specs.declared.Setting.{Setting}
+use Rattle.filter.specs.declared.start.Start.{Start}
+use Rattle.filter.specs.declared.start.Start.TheVariants.{Usual, Given}
 use Rattle.filter.specs.Methods.{weights, start}
 
 -- f(t) = min(u(t), near((A × f(t-1) + B × u(t) + C × u(t-1)) / d)), with f for f(t-1), u for u(t) and v for u(t-1)
@@ -44,7 +46,13 @@ module _ (S : Arithmetic) (s : Setting) where
   passes first (suc (suc zero)) flows = backward_pass (first_pass first flows)
   passes first (suc (suc (suc n))) flows = forward_pass (backward_pass (first_pass first flows))
 
-  -- each segment is filtered alone, from the usual start; missing days get no value
-  unfoldable pub filtered : ℕ → List (Option ℕ) → List (Option S.Number)
-  unfolding passes
-  filtered n days = over_segments (λ flows. map some (passes (start S s) n flows)) days
+  -- the start of pass 1 in the first segment, on a day of flow y: the usual one, or the one that is given
+  unfoldable pub first_start : Start → (y : ℕ) → S.Number
+  first_start Usual = start S s
+  first_start (Given value) = λ y. S.number value
+
+  -- each segment is filtered alone, the first from the start of the call, every other from the usual one; missing days get no
+  -- value
+  unfoldable pub filtered : (n : ℕ) → Start → List (Option ℕ) → List (Option S.Number)
+  unfolding passes first_start
+  filtered n from days = over_first (λ flows. map some (passes (first_start from) n flows)) (λ flows. map some (passes (start S s) n flows)) days

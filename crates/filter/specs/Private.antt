@@ -1,7 +1,7 @@
 -- What the private functions ask of their arguments, so that no sum overflows, and the passes as their loops run them,
 -- over the numbers of a list in memory. No public promise speaks of these: proofs/GapRuns.antt shows that the loops' runs
 -- are the passes of specs/Passes.antt.
-use Rattle.std.specs.Prelude.{ℕ, suc, ◌+◌, ◌*◌, ◌-◌, ◌/◌, ◌≤◌, ◌<◌, ◌≡◌, cond, List, reverse, ◌⊎◌, get_or, ℤ, pos, negsuc, Result, Ok, Err, Some, None}
+use Rattle.std.specs.Prelude.{ℕ, suc, ◌+◌, ◌*◌, ◌-◌, ◌/◌, ◌≤◌, ◌<◌, ◌≡◌, cond, false, List, ◌++◌, length, take, drop, reverse, ◌⊎◌, get_or, ℤ, pos, negsuc, Result, Ok, Err, Some, None}
 use Rattle.std.specs.Prelude as Code
 use Rattle.std.proofs.Math.Option.{Option, none, some}
 use Rattle.numbers.specs.Arithmetic.{rounded, Weights}
@@ -17,9 +17,12 @@ use Rattle.filter.specs.declared.method.Share.{Share}
 use Rattle.filter.specs.declared.method.Share.TheVariants.{Raises, Lowers}
 use Rattle.filter.specs.declared.method.Coefficients.{Coefficients}
 use Rattle.filter.specs.declared.pass.Previous.{Previous}
+use Rattle.filter.specs.declared.pass.Begun.{Begun}
+use Rattle.filter.specs.declared.start.Start.{Start}
+use Rattle.filter.specs.Call.{filtered_list}
 use Rattle.filter.specs.Methods.{method_of}
 use Rattle.filter.specs.Passes.{step}
-use Rattle.filter.specs.Daily.{fresh, base_on, state_after}
+use Rattle.filter.specs.Daily.{invalid_yesterday, base_on, state_after}
 
 -- the method of a number, or 11
 unfoldable pub numbered : ℕ → Result Method Refusal
@@ -75,8 +78,14 @@ day_state s st d = state_after s st (day_of d)
 abbrev pub day_mark : Setting → DailyFilter → ℕ → ℕ
 day_mark s st d = base_mark (base_on s st (day_of d))
 
-unfoldable pub first_run : Setting → List ℕ → List ℕ
-first_run s days = scan (day_state s) (day_mark s) fresh days
+unfoldable pub steps_run : Setting → DailyFilter → List ℕ → List ℕ
+steps_run s st days = scan (day_state s) (day_mark s) st days
+
+-- pass 1 has begun: what is written, and steps from the state over the days that are left, make it
+pub record Begins (s : Setting) (from : Start) (days : List ℕ) (begun : Begun) (base : List ℕ) : Type 0 where
+  pub inside : begun.day ≤ length days
+  pub valid : invalid_yesterday begun.state.yesterday ≡ false
+  pub first_pass : take begun.day base ++ steps_run s begun.state (drop begun.day days) ≡ filtered_list s 1 from days
 
 -- passes 2 and 3: f on a day of u, and the day before
 unfoldable pub output : Weights → Code.Option Previous → ℕ → ℕ

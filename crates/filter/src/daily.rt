@@ -2,7 +2,7 @@
 ghost use Rattle.std.specs.Prelude.{◌≡◌, false, ◌≤◌, ◌*◌, IfOk};
 ghost use Rattle.series.specs.Units.{is_invalid_day};
 ghost use Rattle.series.specs.Causes.{first_cause, refusal_of};
-ghost use Rattle.filter.specs.Daily.{fresh, invalid_yesterday, day_base};
+ghost use Rattle.filter.specs.Daily.{fresh, after, invalid_yesterday, day_base};
 ghost use Rattle.filter.specs.Call.{step_causes, step_rule, outcome_of};
 ghost use Rattle.filter.specs.Private.{SmallBase, day_state, day_mark};
 
@@ -31,6 +31,15 @@ impl DailyFilter {
         ensures { result ≡ fresh }
     {
         DailyFilter { yesterday: None }
+    }
+
+    // The state after a day of this flow and base.
+    pub(crate) fn after(flow: u32, base: u64) -> Self
+        ensures { result ≡ after flow base }
+    {
+        DailyFilter {
+            yesterday: Some(Yesterday { flow, base }),
+        }
     }
 
     // The day's base value by the setting's filter, from the state that the day before left.
@@ -82,11 +91,8 @@ impl Filter {
             };
         }
         let base = self.present(state.yesterday, day);
-        let yesterday = Yesterday { flow: day, base };
         Advanced {
-            state: DailyFilter {
-                yesterday: Some(yesterday),
-            },
+            state: DailyFilter::after(day, base),
             base,
         }
     }

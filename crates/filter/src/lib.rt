@@ -5,6 +5,7 @@
 mod daily;
 mod method;
 mod pass;
+mod start;
 mod usable;
 
 ghost use Rattle.std.specs.Prelude.{◌≡◌, IfOk};
@@ -12,6 +13,7 @@ ghost use Rattle.series.specs.Causes.{refusal_of, first_cause};
 ghost use Rattle.filter.specs.Call.{filter_causes, filter_leaves};
 
 use series::{Refusal, refuse_if};
+pub use start::Start;
 use usable::Filter;
 
 // A filter's setting: the method's number and its parameters in ten-thousandths; q and s are 0 where the method has none.
@@ -53,19 +55,31 @@ pub struct Refused {
 }
 
 // Base flow of a day list by a setting's filter, after 1 to 3 passes, into a base list of the same length.
-pub fn filter(setting: Setting, passes: u32, days: &[u32], base: &mut [u64]) -> Result<(), Refusal>
-    ensures result_value { refusal_of result ≡ first_cause (filter_causes setting passes days.now base.old) }
-    ensures base_after { base.new ≡ filter_leaves setting passes days.now base.old }
+pub fn filter(
+    setting: Setting,
+    passes: u32,
+    start: Start,
+    days: &[u32],
+    base: &mut [u64],
+) -> Result<(), Refusal>
+    ensures result_value { refusal_of result ≡ first_cause (filter_causes setting passes start days.now base.old) }
+    ensures base_after { base.new ≡ filter_leaves setting passes start days.now base.old }
 {
-    let filter = check(setting, passes, days, base)?;
-    filter.run(passes, days, base);
+    let filter = check(setting, passes, start, days, base)?;
+    filter.run(passes, start, days, base);
     Ok(())
 }
 
 // The filter of a call, unless one of its causes of refusal holds; the causes in their order.
 #[tactic(auto, unfolding(crate::specs::Call::filter_causes, series::specs::Lists::too_long))]
-fn check(setting: Setting, passes: u32, days: &[u32], base: &[u64]) -> Result<Filter, Refusal>
-    ensures refusal { refusal_of result ≡ first_cause (filter_causes setting passes days.now base.now) }
+fn check(
+    setting: Setting,
+    passes: u32,
+    start: Start,
+    days: &[u32],
+    base: &[u64],
+) -> Result<Filter, Refusal>
+    ensures refusal { refusal_of result ≡ first_cause (filter_causes setting passes start days.now base.now) }
     ensures of_setting { IfOk result (λ f. f.setting ≡ setting) }
 {
     let filter = Filter::new(setting)?;
@@ -74,5 +88,6 @@ fn check(setting: Setting, passes: u32, days: &[u32], base: &[u64]) -> Result<Fi
     refuse_if(DailyFilter::DAY_LIMIT < days.len(), Refusal::DayListTooLong)?;
     refuse_if(series::lengths_differ(days, base), Refusal::LengthsDiffer)?;
     refuse_if(series::any_invalid_day(days), Refusal::InvalidDay)?;
+    refuse_if(start.is_too_high(days), Refusal::StartTooHigh)?;
     Ok(filter)
 }

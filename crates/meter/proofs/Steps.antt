@@ -14,8 +14,9 @@ use Rattle.series.proofs.Refusing.{passed, outcome_was_accepted, never_both}
 use Rattle.series.proofs.Tests.{no_invalid_day, any_day}
 use Rattle.series.proofs.Views.{valid_flow, valid_missing}
 use Rattle.filter.specs.declared.Setting.{Setting}
+use Rattle.filter.specs.declared.start.Start.TheVariants.{Usual}
 use Rattle.filter.specs.Methods.{Usable}
-use Rattle.filter.proofs.Calls.{one_pass}
+use Rattle.filter.proofs.Calls.{one_pass, usual_start}
 use Rattle.filter.proofs.Sentences.{distance, steps_give_pass_1}
 use Rattle.meter.specs.declared.Reading.{Reading}
 use Rattle.meter.specs.declared.Reading.TheVariants.{CubicMetres, Litres, NoReading}
@@ -46,7 +47,7 @@ valid_days_said (r ∷ rs) h =
 -- THE LAW ON STEPS
 pub meter_days : (s : Setting) → Usable s → (readings : List Reading) → AllAccepted readings → MeterDays s readings
 meter_days s u readings h =
-    record { pass_1 = steps_give_pass_1 s u (days_said readings) (valid_days_said readings h); distance = distance s 1 u (one_pass s) (map day_of (days_said readings)) }
+    record { pass_1 = steps_give_pass_1 s u (days_said readings) (valid_days_said readings h); distance = distance s 1 u (one_pass s) Usual (map day_of (days_said readings)) (usual_start (map day_of (days_said readings))) }
 
 -- Bytes that the call accepts are those of a reading that it accepts, with the same day.
 behind_others : (a b c : Bool) (o : Option ℕ) (v d : ℕ) → by_cause (cond a (some 2) (cond b (some 1) (cond c (some 8) o))) refused (accepted v) ≡ accepted d → by_cause o refused (accepted v) ≡ accepted d

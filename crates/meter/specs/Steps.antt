@@ -6,6 +6,7 @@ use Rattle.series.specs.Units.{day_of}
 use Rattle.series.specs.Causes.{accepted}
 use Rattle.series.specs.Agreement.{Agree}
 use Rattle.filter.specs.declared.Setting.{Setting}
+use Rattle.filter.specs.declared.start.Start.TheVariants.{Usual}
 use Rattle.filter.specs.Passes.{filtered}
 use Rattle.filter.specs.Daily.{fresh}
 use Rattle.filter.specs.Call.{steps_from}
@@ -25,5 +26,5 @@ AllAccepted readings = map reading_outcome readings ≡ map accepted (days_said 
 -- Daily steps over these days from the fresh state give what pass 1 gives over them, and pass 1 keeps its distance. The exact
 -- run begins with the days, which are rounded: how far a day lies from its reading is no part of the distance.
 pub record MeterDays (s : Setting) (readings : List Reading) : Type 0 where
-  pub pass_1 : steps_from s fresh (days_said readings) ≡ map accepted (filtered rounded s 1 (map day_of (days_said readings)))
-  pub distance : Each (Agree (filter_limit s 1)) (map day_of (days_said readings)) (filtered rounded s 1 (map day_of (days_said readings))) (filtered exact s 1 (map day_of (days_said readings)))
+  pub pass_1 : steps_from s fresh (days_said readings) ≡ map accepted (filtered rounded s 1 Usual (map day_of (days_said readings)))
+  pub distance : Each (Agree (filter_limit s 1)) (map day_of (days_said readings)) (filtered rounded s 1 Usual (map day_of (days_said readings))) (filtered exact s 1 Usual (map day_of (days_said readings)))

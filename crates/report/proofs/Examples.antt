@@ -9,7 +9,7 @@ use Rattle.numbers.specs.Near.{near}
 use Rattle.numbers.specs.Arithmetic.{weighted}
 use Rattle.numbers.specs.Scan.{onward, recursive}
 use Rattle.series.specs.Units.{number, is_flow, is_missing, is_invalid_day, day_of, base_of, base_mark, within}
-use Rattle.series.specs.Segments.{over_segments}
+use Rattle.series.specs.Segments.{over_first}
 use Rattle.series.specs.Lists.{too_long, lengths_differ, any_invalid_day, is_invalid_base, any_invalid_base}
 use Rattle.record.specs.Entries.{kind_of, entry_causes}
 use Rattle.record.specs.Call.{entry_then, days_from, first_day_of, reading}
@@ -42,5 +42,5 @@ examples =
     ∷ []
 
 all_agree : map (λ e. separate_text e.0) examples ≡ map (λ e. characters e.1) examples
-unfolding sample no_days separate_text reading first_day_of days_from entry_then entry_causes kind_of number day_lines filtered_list filtered over_segments onward recursive step weighted near thousandths method_of method_weights weights method_start start day_of is_missing is_flow is_invalid_day base_of base_mark within totals_outcome totals_of totals_causes no_flow index flow_total base_days too_long lengths_differ any_invalid_day is_invalid_base any_invalid_base decimal last_digits
+unfolding sample no_days separate_text reading first_day_of days_from entry_then entry_causes kind_of number day_lines filtered_list filtered over_first onward recursive step weighted near thousandths method_of method_weights weights method_start start day_of is_missing is_flow is_invalid_day base_of base_mark within totals_outcome totals_of totals_causes no_flow index flow_total base_days too_long lengths_differ any_invalid_day is_invalid_base any_invalid_base decimal last_digits
 all_agree = refl

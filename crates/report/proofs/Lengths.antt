@@ -11,8 +11,9 @@ use Rattle.series.specs.Causes.{Outcome, accepted, refused}
 use Rattle.series.proofs.Views.{Valid, valid_days}
 use Rattle.record.specs.Call.{Stated, reading}
 use Rattle.record.proofs.Accepting.{accepted_record, reading_refused}
+use Rattle.filter.specs.declared.start.Start.TheVariants.{Usual}
 use Rattle.filter.specs.Methods.{Usable}
-use Rattle.filter.proofs.Calls.{method_1_usable, one_pass}
+use Rattle.filter.proofs.Calls.{method_1_usable, one_pass, usual_start}
 use Rattle.filter.proofs.Sentences.{base_at_most}
 use Rattle.totals.specs.declared.Totals.{Totals}
 use Rattle.totals.specs.Call.{totals_outcome}
@@ -55,6 +56,6 @@ record_length bytes (refused n) e = let r = reading_refused 2048 bytes e in simp
 record_length bytes (accepted s) e =
     let a = accepted_record 2048 bytes e in
     let ds = s.days in
-    let lines = lines_length s.first_day ds (base_flow ds) (valid_days ds a.valid) (λ t y. base_at_most setting 1 usable (one_pass setting) ds t) (omega arith) in
+    let lines = lines_length s.first_day ds (base_flow ds) (valid_days ds a.valid) (λ t y. base_at_most setting 1 usable (one_pass setting) Usual ds (usual_start (map day_of ds)) t) (omega arith) in
     let last = index_length (totals_outcome ds (base_flow ds)) (λ t. index_at_most ds (base_flow ds)) in
     simp length-append (omega (arith, lines, last, a.within_room))

@@ -12,6 +12,7 @@ use Rattle.series.specs.Causes.{Outcome, accepted, refused, outcome_of, map_outc
 use Rattle.series.proofs.Refusing.{never_both, same_values}
 use Rattle.record.specs.Call.{Stated, reading}
 use Rattle.record.proofs.Accepting.{accepted_record}
+use Rattle.filter.specs.declared.start.Start.TheVariants.{Usual}
 use Rattle.filter.proofs.Sentences.{filtered_list_lem}
 use Rattle.totals.specs.declared.Totals.{Totals}
 use Rattle.totals.specs.Call.{totals_outcome}
@@ -31,7 +32,7 @@ many : length zeros ≡ 2048
 many = length-replicate {A = ℕ} 2048 0
 
 abbrev chosen : Choice
-chosen = Filter setting 1
+chosen = Filter setting 1 Usual
 
 -- what a run promises of its answer and of the lists that it leaves
 abbrev Promised : (room : ℕ) → (bytes : List ℕ) → Choice → Result Separation Refusal → (days base : List ℕ) → Type 0
@@ -71,6 +72,6 @@ shown bytes {x = x} {t} {days} {base} c p e h = by_outcome (reading 2048 bytes) 
         let first : x.first_day ≡ s.first_day = ap (λ y. y.first_day) answer in
         let count : x.day_count ≡ length s.days = ap (λ y. y.day_count) answer in
         let read : take x.day_count days ≡ s.days = ap (λ m. take m days) count ∙ q.days in
-        let filled : take x.day_count base ≡ base_flow s.days = ap (λ m. take m base) count ∙ q.base ∙ sym (filtered_list_lem setting 1 s.days) in
-        let totalled : outcome_of t ≡ totals_outcome s.days (base_flow s.days) = same_values (sym (ap base_flow_of h) ∙ ap (λ y. y.base_flow) answer) ∙ ap (totals_outcome s.days) (sym (filtered_list_lem setting 1 s.days)) in
+        let filled : take x.day_count base ≡ base_flow s.days = ap (λ m. take m base) count ∙ q.base ∙ sym (filtered_list_lem setting 1 Usual s.days) in
+        let totalled : outcome_of t ≡ totals_outcome s.days (base_flow s.days) = same_values (sym (ap base_flow_of h) ∙ ap (λ y. y.base_flow) answer) ∙ ap (totals_outcome s.days) (sym (filtered_list_lem setting 1 Usual s.days)) in
         (λ i. characters "day flow base\n" ++ day_lines (first i) (read i) (filled i) ++ index_line (totalled i)) ∙ ap record_text (sym g)

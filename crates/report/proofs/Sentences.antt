@@ -18,8 +18,9 @@ use Rattle.series.specs.Causes.{first_cause, accepted}
 use Rattle.series.proofs.Tests.{not_too_long}
 use Rattle.record.specs.Call.{Stated, reading}
 use Rattle.record.proofs.Accepting.{accepted_record}
+use Rattle.filter.specs.declared.start.Start.TheVariants.{Usual}
 use Rattle.filter.specs.Call.{filter_causes}
-use Rattle.filter.proofs.Calls.{one_pass}
+use Rattle.filter.proofs.Calls.{one_pass, usual_start}
 use Rattle.filter.proofs.Calls as filter
 use Rattle.filter.proofs.Sentences.{base_at_most}
 use Rattle.report.specs.Decimal.{characters, decimal, last_digits, DigitsOf, DecimalOf}
@@ -49,14 +50,14 @@ no_line first days base t h = rw (drop_of_length-le days h)
 
 -- on a present day the number in the base list is a base value, between zero and the flow: no mark is printed
 base_within : (days : List ℕ) (t : ℕ) {y : ℕ} → get_or (map day_of days) t none ≡ some y → get_or (base_flow days) t 0 ≤ 1000 * y
-base_within days = base_at_most setting 1 usable (one_pass setting) days
+base_within days = base_at_most setting 1 usable (one_pass setting) Usual days (usual_start (map day_of days))
 
 -- the filter refuses no days that a record states, where it is lent a base list of their number: so any other refusal than
 -- the totals' is one of reading
-pub filter_accepts : (room : ℕ) (bytes : List ℕ) {s : Stated} → reading room bytes ≡ accepted s → (base : List ℕ) → length base ≡ length s.days → first_cause (filter_causes setting 1 s.days base) ≡ none
+pub filter_accepts : (room : ℕ) (bytes : List ℕ) {s : Stated} → reading room bytes ≡ accepted s → (base : List ℕ) → length base ≡ length s.days → first_cause (filter_causes setting 1 Usual s.days base) ≡ none
 filter_accepts room bytes {s} e base l =
     let a = accepted_record room bytes e in
-    filter.filter_accepts (record { usable = usable; passes = one_pass setting; few = not_too_long s.days a.within_limit; same_length = sym l; valid = a.valid })
+    filter.filter_accepts (record { usable = usable; passes = one_pass setting; few = not_too_long s.days a.within_limit; same_length = sym l; valid = a.valid; start = usual_start (map day_of s.days) })
 
 -- the longest text has at most 14 + 2,048 × 29 + 13 bytes
 pub text_length : (bytes : List ℕ) → length (separate_text bytes) ≤ 59419

@@ -5,6 +5,7 @@ use Rattle.series.specs.Units.{day_of}
 use Rattle.series.specs.Causes.{Outcome, accepted, refused}
 use Rattle.record.specs.Call.{Stated, reading}
 use Rattle.filter.specs.declared.Setting.{Setting}
+use Rattle.filter.specs.declared.start.Start.TheVariants.{Usual}
 use Rattle.filter.specs.Call.{filtered_list}
 use Rattle.totals.specs.declared.Totals.{Totals}
 use Rattle.totals.specs.Call.{totals_outcome}
@@ -16,7 +17,7 @@ setting = record { method = 1; p = 9250; q = 0; s = pos 0 }
 
 -- the base list after its one pass over the days that a record states
 abbrev pub base_flow : List ℕ → List ℕ
-base_flow days = filtered_list setting 1 days
+base_flow days = filtered_list setting 1 Usual days
 
 -- the line of a day: its number, its flow, and its base flow in litres a second (a base value is in thousandths of that); a
 -- missing day has one word for the two

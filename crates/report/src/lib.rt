@@ -9,12 +9,13 @@ ghost use Rattle.std.specs.Prelude.{◌≡◌, ◌++◌, ◌≤◌, length, drop
 ghost use Rattle.record.specs.Call.{reading};
 ghost use Rattle.series.specs.Causes.{outcome_of};
 ghost use Rattle.accuracy.specs.declared.Choice.TheVariants.{Filter};
+ghost use Rattle.filter.specs.declared.start.Start.TheVariants.{Usual};
 ghost use Rattle.report.specs.Decimal.{characters};
 ghost use Rattle.report.specs.Text.{setting, day_lines, index_line, record_text, separate_text};
 ghost use Rattle.report.specs.Private.{content, with_text, Writes};
 
 use accuracy::{Choice, Separation};
-use filter::Setting;
+use filter::{Setting, Start};
 use page::Page;
 use series::Refusal;
 use totals::Totals;
@@ -43,7 +44,7 @@ fn write(bytes: &[u8], text: &mut [u8]) -> usize
 
 // Method 1, p 9250, one pass.
 fn choice() -> Choice
-    ensures { result ≡ Filter setting 1 }
+    ensures { result ≡ Filter setting 1 Usual }
 {
     Choice::Filter {
         setting: Setting {
@@ -53,6 +54,7 @@ fn choice() -> Choice
             s: 0,
         },
         passes: 1,
+        start: Start::Usual,
     }
 }
 

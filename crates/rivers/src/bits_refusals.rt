@@ -47,7 +47,7 @@ pub fn of_word_counts(rt: &impl Print) -> io::Result<()> {
     over_bits::from_bits(rt, &[], &[], &mut [])
 }
 
-// 11, 12, 13, 16, 25, 18, 23, where 28 holds too.
+// 11, 12, 13, 16, 25, 18, 23, where 28 holds too; and so 11, 12, 13 from a start, where 29 does as well.
 pub fn of_settings(rt: &impl Print) -> io::Result<()> {
     let mut limbs = [7u32; 2];
     let mut work = [7u64; 4];
@@ -60,6 +60,9 @@ pub fn of_settings(rt: &impl Print) -> io::Result<()> {
     river.filter(plain(8, 9250, 0), 1)?;
     river.filter(plain(2, 3333, 0), 1)?;
     river.filter(plain(2, 9250, 0), 2)?;
+    river.filter_from(plain(8, 9250, 0), 1, 100_001)?;
+    river.filter_from(plain(2, 3333, 0), 1, 100_001)?;
+    river.filter_from(plain(2, 9250, 0), 2, 100_001)?;
     river.line(31, 9000)?;
     river.staggered(2, 9000, 4, &mut work)?;
     river.staggered(1, 9000, 1, &mut work)?;
@@ -68,11 +71,12 @@ pub fn of_settings(rt: &impl Print) -> io::Result<()> {
     river.bfimax(1, 1, 9500)
 }
 
-// Each call over a river of two days, or over one that is refused for its lists.
+// Each call over a river of two days, or over one that is refused for its lists; the start is above a first flow of 1.
 fn each_call(river: &mut BitRiver<'_, '_, impl Print>) -> io::Result<()> {
     let mut limbs = [7u32; 2];
     let mut work = [7u64; 2];
     river.filter(plain(1, 9250, 0), 1)?;
+    river.filter_from(plain(1, 9250, 0), 1, 1001)?;
     river.line(1, 9000)?;
     river.staggered(1, 9000, 1, &mut work)?;
     river.totals()?;
@@ -102,7 +106,7 @@ pub fn of_lists(rt: &impl Print) -> io::Result<()> {
     each_over(rt, &[1, 10_000_001], &[3])
 }
 
-// 17, 19, 20, 21, 22, 24.
+// 17, 19, 20, 21, 22, 24; and 29, by the first flow that is present.
 pub fn of_values(rt: &impl Print) -> io::Result<()> {
     let flows = [0, 100, 90, 81, 0];
     let mut limbs = [7u32; 1];
@@ -118,6 +122,14 @@ pub fn of_values(rt: &impl Print) -> io::Result<()> {
     without.totals()?;
     without.ratios(2, &mut limbs)?;
     without.bfimax(4, 2, 9500)?;
+    without.filter_from(plain(1, 9250, 0), 1, 1)?;
+    let mut behind_gap = BitRiver {
+        rt,
+        flows: &[0, 100],
+        words: &[2],
+        base: &mut [7; 2],
+    };
+    behind_gap.filter_from(plain(1, 9250, 0), 1, 100_001)?;
     let at_base = BitRiver {
         rt,
         flows: &flows,

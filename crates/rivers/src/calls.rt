@@ -1,6 +1,6 @@
 // Each call over a river, with its answer and the lists that it leaves printed.
 use crate::{reading_of, show};
-use filter::{Advanced, DailyFilter, Refused, Setting};
+use filter::{Advanced, DailyFilter, Refused, Setting, Start};
 use meter::Reading;
 use minima::LineSetting;
 use recession::Statistics;
@@ -127,12 +127,18 @@ impl<'a, 'b, P: Print> River<'a, 'b, P> {
         println!(rt;)
     }
 
-    pub fn filter(&mut self, setting: Setting, passes: u32) -> io::Result<()> {
-        let rt = self.rt;
-        let Setting { method, p, q, s } = setting;
-        print!(rt; "filter {method} {p} {q} {s} {passes}")?;
-        let answer = filter::filter(setting, passes, self.days, &mut *self.base);
+    fn started(&mut self, setting: Setting, passes: u32, start: Start) -> io::Result<()> {
+        show::filter(self.rt, setting, passes, start)?;
+        let answer = filter::filter(setting, passes, start, self.days, &mut *self.base);
         self.filled(answer)
+    }
+
+    pub fn filter(&mut self, setting: Setting, passes: u32) -> io::Result<()> {
+        self.started(setting, passes, Start::Usual)
+    }
+
+    pub fn filter_from(&mut self, setting: Setting, passes: u32, start: u64) -> io::Result<()> {
+        self.started(setting, passes, Start::Given(start))
     }
 
     // A call and then the totals. Kept: one for each call, here and below, since each call has parameters of its own.

@@ -11,6 +11,7 @@ mod record_of;
 mod refusals;
 mod river;
 mod show;
+mod starts;
 
 use calls::{River, plain, signed};
 use over_bits::BitRiver;
@@ -29,6 +30,17 @@ fn all_methods(river: &mut River<'_, '_, impl Print>) -> io::Result<()> {
     river.filter_and_totals(plain(5, 9780, 8000), 1)?;
     river.filter_and_totals(plain(6, 9250, 0), 1)?;
     river.filter_and_totals(signed(7, 9700, 300, -9999), 1)
+}
+
+// From a start: 0, all of the first flow, and more than that, which is refused.
+fn all_starts(river: &mut River<'_, '_, impl Print>) -> io::Result<()> {
+    let whole = river::first_whole(river.days);
+    for start in [0, whole, whole + 1] {
+        river.filter_from(plain(1, 9250, 0), 3, start)?;
+        river.filter_from(plain(5, 9780, 8000), 1, start)?;
+        river.filter_from(signed(7, 9700, 300, -9999), 1, start)?;
+    }
+    Ok(())
 }
 
 fn all_steps(river: &River<'_, '_, impl Print>) -> io::Result<()> {
@@ -83,6 +95,7 @@ fn spells(river: &mut River<'_, '_, impl Print>) -> io::Result<()> {
 // Calls over presence bits that thirty years and a full record share. Each gives what the call over the days gave.
 fn all_over_bits(river: &mut BitRiver<'_, '_, impl Print>) -> io::Result<()> {
     let mut limbs = [0u32; 8192];
+    river.filter_from(plain(1, 9250, 0), 3, 0)?;
     river.filter(plain(1, 9250, 0), 3)?;
     river.totals()?;
     river.line(5, 9000)?;
@@ -105,6 +118,7 @@ fn years_in_bits(rt: &impl Print, days: &[u32], base: &mut [u64]) -> io::Result<
     };
     all_over_bits(&mut river)?;
     river.filter(signed(7, 9700, 300, -9999), 1)?;
+    river.filter_from(signed(7, 9700, 300, -9999), 1, 0)?;
     river.staggered(5, 9000, 3, &mut work)?;
     river.bfimax(5000, 3650, 9500)?;
     over_bits::from_bits(rt, &flows, &words, &mut again)
@@ -129,8 +143,8 @@ fn record_in_bits(rt: &impl Print, days: &[u32], base: &mut [u64]) -> io::Result
     over_bits::from_bits(rt, &flows, &words, &mut again)
 }
 
-// Thirty years of days through every method and number of passes, the daily step, the line, the staggered lines, the ratios
-// and BFImax; then as flows and words.
+// Thirty years of days through every method and number of passes, filters from a start, the daily step, the line, the
+// staggered lines, the ratios and BFImax; then as flows and words.
 fn thirty_years(rt: &impl Print, seed: u32, gaps: Gaps) -> io::Result<()> {
     let mut days = [0u32; 10957];
     let mut base = [0u64; 10957];
@@ -144,6 +158,7 @@ fn thirty_years(rt: &impl Print, seed: u32, gaps: Gaps) -> io::Result<()> {
         base: &mut base,
     };
     all_methods(&mut river)?;
+    all_starts(&mut river)?;
     all_steps(&river)?;
     lines(&mut river)?;
     all_staggered(&mut river)?;
@@ -164,6 +179,7 @@ fn full_record(rt: &impl Print, alloc: Global) -> io::Result<()> {
         days: &days,
         base: &mut base,
     };
+    river.filter_from(plain(1, 9250, 0), 3, 0)?;
     river.filter_and_totals(plain(1, 9250, 0), 3)?;
     river.line_and_totals(5, 9000)?;
     limbs(&river, &[2])?;
@@ -247,6 +263,7 @@ fn main(rt: HostRuntime) -> io::Result<()> {
     refusals::of_day_counts(&rt)?;
     refusals::of_settings(&rt)?;
     refusals::of_lists(&rt)?;
+    refusals::of_starts(&rt)?;
     refusals::of_steps(&rt)?;
     refusals::of_values(&rt)?;
     refusals::of_spells(&rt)?;
@@ -254,6 +271,9 @@ fn main(rt: HostRuntime) -> io::Result<()> {
     refusals::of_meters(&rt)?;
     refusals::of_floats(&rt)?;
     bits_refused(&rt)?;
+    starts::at_ends(&rt)?;
+    starts::with_gaps(&rt)?;
+    starts::over_bits(&rt)?;
     half_lives(&rt)?;
     readings(&rt)?;
     metered_years(&rt)?;

@@ -1,6 +1,6 @@
 // Each call over presence bits, with what it gives printed as the call over days prints it.
 use crate::show;
-use filter::Setting;
+use filter::{Setting, Start};
 use minima::LineSetting;
 use recession::Statistics;
 use series::Refusal;
@@ -72,12 +72,27 @@ impl<'a, 'b, P: Print> BitRiver<'a, 'b, P> {
         println!(rt;)
     }
 
-    pub fn filter(&mut self, setting: Setting, passes: u32) -> io::Result<()> {
+    fn started(&mut self, setting: Setting, passes: u32, start: Start) -> io::Result<()> {
         let rt = self.rt;
-        let Setting { method, p, q, s } = setting;
-        print!(rt; "bits filter {method} {p} {q} {s} {passes}")?;
-        let answer = bits::filter(setting, passes, self.flows, self.words, &mut *self.base);
+        print!(rt; "bits ")?;
+        show::filter(rt, setting, passes, start)?;
+        let answer = bits::filter(
+            setting,
+            passes,
+            start,
+            self.flows,
+            self.words,
+            &mut *self.base,
+        );
         self.filled(answer)
+    }
+
+    pub fn filter(&mut self, setting: Setting, passes: u32) -> io::Result<()> {
+        self.started(setting, passes, Start::Usual)
+    }
+
+    pub fn filter_from(&mut self, setting: Setting, passes: u32, start: u64) -> io::Result<()> {
+        self.started(setting, passes, Start::Given(start))
     }
 
     pub fn line(&mut self, block_days: u32, factor: u32) -> io::Result<()> {

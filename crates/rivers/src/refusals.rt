@@ -75,6 +75,40 @@ pub fn of_lists(rt: &impl Print) -> io::Result<()> {
     invalid.ratios(2, &mut limbs)
 }
 
+// 11, 12, 13, 9, 14, 10, each where 29 holds too, and 29 alone; by the first present flow, and not by the first day.
+pub fn of_starts(rt: &impl Print) -> io::Result<()> {
+    let days = [series::MISSING, 100, 10_000_001];
+    let mut base = [7u64; 3];
+    let mut invalid = River {
+        rt,
+        days: &days,
+        base: &mut base,
+    };
+    invalid.filter_from(plain(8, 9250, 0), 1, 100_001)?;
+    invalid.filter_from(plain(2, 3333, 0), 1, 100_001)?;
+    invalid.filter_from(plain(2, 9250, 0), 2, 100_001)?;
+    invalid.filter_from(plain(1, 9250, 0), 1, 100_001)?;
+    let mut long = River {
+        rt,
+        days: &[1; 36526],
+        base: &mut base,
+    };
+    long.filter_from(plain(1, 9250, 0), 1, 1001)?;
+    let mut short = River {
+        rt,
+        days: &days,
+        base: &mut [7; 2],
+    };
+    short.filter_from(plain(1, 9250, 0), 1, 100_001)?;
+    let mut river = River {
+        rt,
+        days: &[series::MISSING, 100, 10_000_000],
+        base: &mut base,
+    };
+    river.filter_from(plain(1, 9250, 0), 1, 100_001)?;
+    river.filter_from(plain(1, 9250, 0), 1, u64::MAX)
+}
+
 fn step_after(rt: &impl Print, yesterday: Yesterday, method: u32, p: u32) -> io::Result<()> {
     let state = DailyFilter {
         yesterday: Some(yesterday),

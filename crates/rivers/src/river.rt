@@ -1,4 +1,5 @@
 // Rivers made for the tests. tests/rivers.py makes the same ones.
+ghost use Rattle.std.specs.Prelude.{◌<◌};
 
 // What a made river goes by: the number that its weather is drawn from, and the water in its ground.
 #[derive(Clone, Copy, Debug, PartialEq, Eq)]
@@ -98,6 +99,18 @@ pub fn fall(days: &mut [u32], from: u32, constant: u32, storms: Option<Storms>) 
         };
         flow = part(flow, constant);
     }
+}
+
+// 1000 times the first present flow, or 0 where there is none.
+pub fn first_whole(days: &[u32]) -> u64
+    ensures { result < 4294967296000 }
+{
+    for day in days {
+        if *day != series::MISSING {
+            return 1000 * u64::from(*day);
+        }
+    }
+    0
 }
 
 // Fills a base list with the values that its days have where all of their flow is base flow.

@@ -1,6 +1,7 @@
 // What the calls give, as text: check sums and selected days.
 ghost use Rattle.std.specs.Prelude.{◌<◌};
 
+use filter::{Setting, Start};
 use series::Refusal;
 use std::io;
 
@@ -43,6 +44,16 @@ pub fn words(rt: &impl Print, words: &[u64]) -> io::Result<()> {
 
 pub fn refusal(rt: &impl Print, refusal: Refusal) -> io::Result<()> {
     print!(rt; ": refused {}", refusal.number())
+}
+
+// A filter's setting and passes, and a start that is given.
+pub fn filter(rt: &impl Print, setting: Setting, passes: u32, start: Start) -> io::Result<()> {
+    let Setting { method, p, q, s } = setting;
+    print!(rt; "filter {method} {p} {q} {s} {passes}")?;
+    match start {
+        Start::Usual => Ok(()),
+        Start::Given(value) => print!(rt; " from {value}"),
+    }
 }
 
 // What a call without values comes to.

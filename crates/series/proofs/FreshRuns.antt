@@ -1,12 +1,12 @@
 -- A recursive run over a list with gaps, with a state that is made fresh at a missing day, is each segment run alone.
 -- Assumes nothing.
-use mathlib.Core.Path.{◌≡◌, refl, ◌∙◌, ap}
+use mathlib.Core.Path.{◌≡◌, refl, sym, ◌∙◌, ap}
 use mathlib.Core.List.{List, [], ◌∷◌, ◌++◌, map}
 use mathlib.Core.Option.{Option, none, some}
 use Rattle.numbers.specs.Scan.{scan, onward, recursive}
 use Rattle.numbers.proofs.Scanning.{scan_none, scan_next, scan_seen}
 use Rattle.numbers.proofs.Recursion.{onward_next, onward_end, recursive_first, recursive_none}
-use Rattle.series.specs.Segments.{parts, after_gaps, over_segments}
+use Rattle.series.specs.Segments.{parts, after_gaps, over_segments, over_first}
 
 -- what a run puts out from a state on: u and f of the day before, or none before a segment's first day
 module _ {U F : Type 0} (first : U → F) (next : F → U → U → F) where
@@ -42,3 +42,13 @@ module _ {S U F : Type 0} (first : U → F) (next : F → U → U → F) (seen :
   unfolding over_segments
   run_alone input output st e days =
       scan_seen (λ st d. state st (input d)) (λ st d. output (out st (input d))) state out (λ st. st) input output (λ st d. refl) (λ st d. refl) st days ∙ ap (map output) (rw e at (gap_run st (map input days)))
+
+  -- from a state that knows a first day u and its f, whatever that is: the segment goes on from there
+  pub run_on : {A B : Type 0} (input : A → Option U) (output : Option F → B) (st : S) (u : U) (f : F) → seen st ≡ some (u, f) → (days : List A)
+      → output (some f) ∷ scan (λ st d. state st (input d)) (λ st d. output (out st (input d))) st days ≡ map output (over_first (λ s. map some (recursive (λ _. f) next s)) (λ s. map some (recursive first next s)) (some u ∷ map input days))
+  unfolding over_first
+  run_on input output st u f e days =
+      let p = parts (map input days) in
+      ap (λ l. output (some f) ∷ l)
+      (scan_seen (λ st d. state st (input d)) (λ st d. output (out st (input d))) state out (λ st. st) input output (λ st d. refl) (λ st d. refl) st days ∙ ap (map output) (rw e at (gap_run st (map input days))))
+      ∙ ap (λ l. map output (map some l ++ after_gaps (λ s. map some (recursive first next s)) p.rest)) (sym (recursive_first next (λ _. f) u p.first))

@@ -102,6 +102,14 @@ over_first_lem rule e [] = rw e
 over_first_lem rule e (none ∷ ds) = rw e (ap (λ l. none ∷ l) (over_first_lem rule e ds))
 over_first_lem rule e (some y ∷ ds) = refl
 
+-- .. one rule after another: each segment sees both ..
+module _ {A B C : Type 0} (f₀ f : List A → List B) (g : List B → List (Option C)) (none_of_none : g [] ≡ []) where
+  pub first_then : (days : List (Option A)) → over_segments g (over_first (λ s. map some (f₀ s)) (λ s. map some (f s)) days) ≡ over_first (λ s. g (f₀ s)) (λ s. g (f s)) days
+  unfolding over_first over_segments parts after_gaps
+  first_then [] = rw none_of_none refl
+  first_then (none ∷ ds) = rw none_of_none (ap (λ l. none ∷ l) (first_then ds))
+  first_then (some y ∷ ds) = let p = parts ds in rw (gaps_some f g p.rest, parts_whole (f₀ (y ∷ p.first)) (map f p.rest), gaps_then f g p.rest) refl
+
 -- .. and side by side it is as that
 module _ {B C : Type 0} (R : Option ℕ → Option B → Option C → Type 0) (missing : R none none none) where
   module _ (f₀ f : List ℕ → List (Option B)) (g₀ g : List ℕ → List (Option C)) (first : (flows : List ℕ) → Each R (map some flows) (f₀ flows) (g₀ flows)) (alone : (flows : List ℕ) → Each R (map some flows) (f flows) (g flows)) where

@@ -1,5 +1,5 @@
 -- Segments (document 01: stretches): the longest lists of neighbouring present days.
-use Rattle.std.specs.Prelude.{ℕ, true, List, [], ◌∷◌, ◌++◌}
+use Rattle.std.specs.Prelude.{ℕ, suc, true, List, [], ◌∷◌, ◌++◌}
 use Rattle.std.proofs.Math.Option.{Option, none, some}
 use Rattle.series.specs.Runs.{Longest}
 
@@ -27,6 +27,17 @@ after_gaps rule (s ∷ ss) = none ∷ (rule s ++ after_gaps rule ss)
 unfoldable pub over_segments : {A B : Type 0} → (List A → List (Option B)) → List (Option A) → List (Option B)
 unfolding parts after_gaps
 over_segments rule days = rule (parts days).first ++ after_gaps rule (parts days).rest
+
+-- how many missing days a list begins with, and the flow of the first present day behind them
+unfoldable pub leading_gap : {A : Type 0} → List (Option A) → ℕ
+leading_gap [] = 0
+leading_gap (none ∷ ds) = suc (leading_gap ds)
+leading_gap (some y ∷ ds) = 0
+
+unfoldable pub first_present : {A : Type 0} → List (Option A) → Option A
+first_present [] = none
+first_present (none ∷ ds) = first_present ds
+first_present (some y ∷ ds) = some y
 
 -- the same where the first segment, behind any missing days, has a rule of its own; with one rule for all it is `over_segments`
 unfoldable pub over_first : {A B : Type 0} → (first rule : List A → List (Option B)) → List (Option A) → List (Option B)

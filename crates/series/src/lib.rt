@@ -4,8 +4,9 @@
 // single day or value has the mark too.
 #![tactic(auto)]
 
-ghost use Rattle.std.specs.Prelude.{◌≡◌, ◌↔◌, true, false};
+ghost use Rattle.std.specs.Prelude.{◌≡◌, ◌↔◌, true, false, map};
 ghost use Rattle.series.specs.Units.{is_invalid_day, day_of, base_of, within};
+ghost use Rattle.series.specs.Segments.{leading_gap};
 ghost use Rattle.series.specs.Causes.{refusal_number, Decides};
 ghost use Rattle.series.specs.Lists.{too_long, lengths_differ, any_invalid_day, is_invalid_base, any_invalid_base, list_causes};
 
@@ -77,6 +78,8 @@ pub enum Refusal {
     ReadingTooLarge = 27,
     // 28: presence words that are too many or too few, a one past the last day, or a flow under a zero
     InvalidPresence = 28,
+    // 29: a start that is given lies above 1000 × the first present flow
+    StartTooHigh = 29,
 }
 
 impl Refusal {
@@ -128,6 +131,19 @@ pub fn any_invalid_day(days: &[u32]) -> bool
         invalid |= is_invalid_day(*day);
     }
     invalid
+}
+
+// How many missing days a list begins with.
+#[tactic(auto, using(crate::proofs::FirstDay::gap_turn, crate::proofs::FirstDay::gap_ends, crate::proofs::FirstDay::gap_of_all))]
+pub fn leading_gap(days: &[u32]) -> usize
+    ensures { result ≡ leading_gap (map day_of days.now) }
+{
+    for (t, day) in days.iter().enumerate() {
+        if *day != MISSING {
+            return t;
+        }
+    }
+    days.len()
 }
 
 // 20, of one day: it is missing and has a base value, or has one above 1000 × its flow.

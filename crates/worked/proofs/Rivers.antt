@@ -16,11 +16,12 @@ use Rattle.numbers.specs.Near.{near}
 use Rattle.numbers.specs.Fraction.{Fraction, whole, sum, opposite, difference, surplus, multiple, quotient, least}
 use Rattle.numbers.specs.Arithmetic.{rounded, exact, weighted}
 use Rattle.series.specs.Units.{number, missing_mark, no_value_mark, is_invalid_day, day_of, base_of, base_mark, within}
-use Rattle.series.specs.Segments.{parts, over_segments}
+use Rattle.series.specs.Segments.{parts, over_segments, over_first, first_present}
 use Rattle.series.specs.Causes.{first_cause, Outcome, accepted, refused}
 use Rattle.series.specs.Lists.{too_long, lengths_differ, any_invalid_day, is_invalid_base, any_invalid_base}
 use Rattle.filter.specs.declared.Setting.{Setting}
-use Rattle.filter.specs.Methods.{method_of, weights, start, spans, in_range, unknown_method, out_of_range, invalid_passes}
+use Rattle.filter.specs.declared.start.Start.TheVariants.{Usual, Given}
+use Rattle.filter.specs.Methods.{method_of, weights, start, spans, in_range, unknown_method, out_of_range, invalid_passes, above_flow, start_too_high}
 use Rattle.numbers.specs.Scan.{recursive}
 use Rattle.numbers.specs.Lists.{selected}
 use Rattle.numbers.specs.Order.{insert_rising, rising, at_rank, ranked}
@@ -100,32 +101,65 @@ abbrev sixth : Fraction
 sixth = record { upper = pos 984375; lower = 1000; above_zero = lit< tt }
 
 filter_checks : List Bool
-unfolding whole sum opposite difference surplus multiple quotient least limit_of filtered over_segments method_of weights start step recursive thousandths weighted near filter_limit filter_causes unknown_method out_of_range in_range spans within invalid_passes too_long lengths_differ any_invalid_day is_invalid_day
+unfolding whole sum opposite difference surplus multiple quotient least limit_of filtered over_first method_of weights start step recursive thousandths weighted near filter_limit filter_causes unknown_method out_of_range in_range spans within invalid_passes too_long lengths_differ any_invalid_day is_invalid_day
 filter_checks =
     -- method 1, p 9250, flows 100, 200, and flows 1000, 10
-    same (filtered rounded (setting 1 9250 0) 1 (some 100 ∷ some 200 ∷ [])) (some 50000 ∷ some 57500 ∷ [])
-    ∷ same (filtered rounded (setting 1 9250 0) 1 (some 1000 ∷ some 10 ∷ [])) (some 500000 ∷ some 10000 ∷ [])
+    same (filtered rounded (setting 1 9250 0) 1 Usual (some 100 ∷ some 200 ∷ [])) (some 50000 ∷ some 57500 ∷ [])
+    ∷ same (filtered rounded (setting 1 9250 0) 1 Usual (some 1000 ∷ some 10 ∷ [])) (some 500000 ∷ some 10000 ∷ [])
     -- method 5, p 9770, q 8000, flows 100, 100
-    ∷ same (filtered rounded (setting 5 9770 8000) 1 (some 100 ∷ some 100 ∷ [])) (some 72000 ∷ some 72842 ∷ [])
+    ∷ same (filtered rounded (setting 5 9770 8000) 1 Usual (some 100 ∷ some 100 ∷ [])) (some 72000 ∷ some 72842 ∷ [])
     -- method 6, p 5000, flow 1 on six days; the sixth exact value, and the limit
-    ∷ same (filtered rounded (setting 6 5000 0) 1 level) (some 500 ∷ some 750 ∷ some 875 ∷ some 938 ∷ some 969 ∷ some 984 ∷ [])
-    ∷ equal (last (filtered exact (setting 6 5000 0) 1 level) (whole 0)) sixth
+    ∷ same (filtered rounded (setting 6 5000 0) 1 Usual level) (some 500 ∷ some 750 ∷ some 875 ∷ some 938 ∷ some 969 ∷ some 984 ∷ [])
+    ∷ equal (last (filtered exact (setting 6 5000 0) 1 Usual level) (whole 0)) sixth
     ∷ equal (filter_limit (setting 6 5000 0) 1) (whole 1)
     -- method 2: p 3333 gives 12, 3334 passes
-    ∷ same_value (first_cause (filter_causes (setting 2 3333 0) 1 [] [])) (some 12)
-    ∷ same_value (first_cause (filter_causes (setting 2 3334 0) 1 [] [])) none
+    ∷ same_value (first_cause (filter_causes (setting 2 3333 0) 1 Usual [] [])) (some 12)
+    ∷ same_value (first_cause (filter_causes (setting 2 3334 0) 1 Usual [] [])) none
     -- method 7, p 100, q 1000, s -5000, flows 1000, 2: the second day comes out below zero, and is 0 in both runs
-    ∷ same (filtered rounded (seven 100 1000 (negsuc 4999)) 1 (some 1000 ∷ some 2 ∷ [])) (some 500000 ∷ some 0 ∷ [])
-    ∷ equal (last (filtered exact (seven 100 1000 (negsuc 4999)) 1 (some 1000 ∷ some 2 ∷ [])) (whole 1)) (whole 0)
+    ∷ same (filtered rounded (seven 100 1000 (negsuc 4999)) 1 Usual (some 1000 ∷ some 2 ∷ [])) (some 500000 ∷ some 0 ∷ [])
+    ∷ equal (last (filtered exact (seven 100 1000 (negsuc 4999)) 1 Usual (some 1000 ∷ some 2 ∷ [])) (whole 1)) (whole 0)
     -- s up to 9999 either way in method 7, with one pass; 0 in the others; and no method 8
-    ∷ same_value (first_cause (filter_causes (seven 9999 10000 (pos 9999)) 1 [] [])) none
-    ∷ same_value (first_cause (filter_causes (seven 1 1 (negsuc 9998)) 1 [] [])) none
-    ∷ same_value (first_cause (filter_causes (seven 1 1 (pos 10000)) 1 [] [])) (some 12)
-    ∷ same_value (first_cause (filter_causes (seven 1 1 (negsuc 9999)) 1 [] [])) (some 12)
-    ∷ same_value (first_cause (filter_causes (seven 1 1 (pos 1)) 2 [] [])) (some 13)
-    ∷ same_value (first_cause (filter_causes (record { method = 1; p = 9250; q = 0; s = pos 1 }) 1 [] [])) (some 12)
-    ∷ same_value (first_cause (filter_causes (record { method = 4; p = 9250; q = 500; s = negsuc 0 }) 1 [] [])) (some 12)
-    ∷ same_value (first_cause (filter_causes (setting 8 9250 0) 1 [] [])) (some 11)
+    ∷ same_value (first_cause (filter_causes (seven 9999 10000 (pos 9999)) 1 Usual [] [])) none
+    ∷ same_value (first_cause (filter_causes (seven 1 1 (negsuc 9998)) 1 Usual [] [])) none
+    ∷ same_value (first_cause (filter_causes (seven 1 1 (pos 10000)) 1 Usual [] [])) (some 12)
+    ∷ same_value (first_cause (filter_causes (seven 1 1 (negsuc 9999)) 1 Usual [] [])) (some 12)
+    ∷ same_value (first_cause (filter_causes (seven 1 1 (pos 1)) 2 Usual [] [])) (some 13)
+    ∷ same_value (first_cause (filter_causes (record { method = 1; p = 9250; q = 0; s = pos 1 }) 1 Usual [] [])) (some 12)
+    ∷ same_value (first_cause (filter_causes (record { method = 4; p = 9250; q = 500; s = negsuc 0 }) 1 Usual [] [])) (some 12)
+    ∷ same_value (first_cause (filter_causes (setting 8 9250 0) 1 Usual [] [])) (some 11)
+    ∷ []
+
+-- Method 1, p 9250, from a start that is given.
+from : (value passes : ℕ) → List (Option ℕ) → List (Option ℕ)
+from value n days = filtered rounded (setting 1 9250 0) n (Given value) days
+
+refused_from : (value : ℕ) → (days base : List ℕ) → Option ℕ
+refused_from value days base = first_cause (filter_causes (setting 1 9250 0) 1 (Given value) days base)
+
+start_checks : List Bool
+unfolding from refused_from whole sum opposite difference surplus multiple quotient least filtered over_first method_of weights start step recursive thousandths weighted near filter_causes unknown_method out_of_range in_range spans within invalid_passes too_long lengths_differ any_invalid_day is_invalid_day day_of start_too_high above_flow first_present
+start_checks =
+    -- flows 100, 200, from 0 and from 1000 × the first flow; one above it gives 29, but where 10 holds that
+    same (from 0 1 (some 100 ∷ some 200 ∷ [])) (some 0 ∷ some 11250 ∷ [])
+    ∷ same (from 100000 1 (some 100 ∷ some 200 ∷ [])) (some 100000 ∷ some 103750 ∷ [])
+    ∷ same_value (refused_from 100000 (100 ∷ 200 ∷ []) (0 ∷ 0 ∷ [])) none
+    ∷ same_value (refused_from 100001 (100 ∷ 200 ∷ []) (0 ∷ 0 ∷ [])) (some 29)
+    ∷ same_value (refused_from 100001 (100 ∷ 10000001 ∷ []) (0 ∷ 0 ∷ [])) (some 10)
+    -- the exact run begins there too
+    ∷ equal (last (filtered exact (setting 1 9250 0) 1 (Given 0) (some 100 ∷ some 201 ∷ [])) (whole 0)) (quotient (whole 22575) 2)
+    -- no day is present: any start, and no effect
+    ∷ same (from 100001 1 (none ∷ none ∷ [])) (none ∷ none ∷ [])
+    ∷ same_value (refused_from 18446744073709551615 (missing_mark ∷ missing_mark ∷ []) (0 ∷ 0 ∷ [])) none
+    -- a first day that is missing: the first that is present counts; the segment behind it starts as usual
+    ∷ same (from 0 1 (none ∷ some 100 ∷ some 200 ∷ none ∷ some 100 ∷ [])) (none ∷ some 0 ∷ some 11250 ∷ none ∷ some 50000 ∷ [])
+    ∷ same_value (refused_from 100000 (missing_mark ∷ 100 ∷ []) (0 ∷ 0 ∷ [])) none
+    ∷ same_value (refused_from 100001 (missing_mark ∷ 100 ∷ []) (0 ∷ 0 ∷ [])) (some 29)
+    -- three passes, flows 10, 200, 10: the start serves the first alone
+    ∷ same (from 0 1 (some 10 ∷ some 200 ∷ some 10 ∷ [])) (some 0 ∷ some 7875 ∷ some 10000 ∷ [])
+    ∷ same (from 0 2 (some 10 ∷ some 200 ∷ some 10 ∷ [])) (some 0 ∷ some 7875 ∷ some 10000 ∷ [])
+    ∷ same (from 0 3 (some 10 ∷ some 200 ∷ some 10 ∷ [])) (some 0 ∷ some 295 ∷ some 943 ∷ [])
+    ∷ same (from 10000 2 (some 10 ∷ some 200 ∷ some 10 ∷ [])) (some 10000 ∷ some 10267 ∷ some 10000 ∷ [])
+    ∷ same (from 10000 3 (some 10 ∷ some 200 ∷ some 10 ∷ [])) (some 10000 ∷ some 10010 ∷ some 10000 ∷ [])
     ∷ []
 
 -- flows 10, 8, 10, 20, 9, 30
@@ -271,6 +305,6 @@ meter_checks =
     -- no reading
     ∷ gives missing_mark (meter_outcome (3 ∷ [])) ∷ []
 
-rivers : every (filter_checks ++ line_checks ++ dry_checks ++ ratio_checks ++ staggered_checks ++ half_life_checks ++ meter_checks) ≡ true
-unfolding filter_checks line_checks dry_checks ratio_checks staggered_checks half_life_checks meter_checks
+rivers : every (filter_checks ++ start_checks ++ line_checks ++ dry_checks ++ ratio_checks ++ staggered_checks ++ half_life_checks ++ meter_checks) ≡ true
+unfolding filter_checks start_checks line_checks dry_checks ratio_checks staggered_checks half_life_checks meter_checks
 rivers = refl

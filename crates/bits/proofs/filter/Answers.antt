@@ -8,8 +8,8 @@ use Rattle.bits.proofs.filter.Goals as goal
 
 pub returns-clause-refusal : goal.returns-clause-refusal
 unfolding filter_bits_causes
-returns-clause-refusal c = answered (filter_at_10 c.args.setting c.args.passes c.args.base.now) _ _ c.over_form.ensures.laid _ c.over_form.ensures.told (search rules)
+returns-clause-refusal c = answered (filter_at_10 c.args.setting c.args.passes c.args.start c.args.base.now) _ _ c.over_form.ensures.laid _ c.over_form.ensures.told (search rules)
 
 pub returns-clause-base_list : goal.returns-clause-base_list
 unfolding filter_bits_causes filter_leaves
-returns-clause-base_list c = left_base (filter_at_10 c.args.setting c.args.passes c.args.base.now) _ _ c.over_form.ensures.laid c.over_form.auto.base (filtered_list c.args.setting c.args.passes) (search rules)
+returns-clause-base_list c = left_base (filter_at_10 c.args.setting c.args.passes c.args.start c.args.base.now) _ _ c.over_form.ensures.laid c.over_form.auto.base (filtered_list c.args.setting c.args.passes c.args.start) (search rules)

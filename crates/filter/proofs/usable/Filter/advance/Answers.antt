@@ -1,5 +1,6 @@
 -- `filter::usable::Filter::advance` meets its contract: a missing day, or one of the segment's.
-use Rattle.std.proofs.Common.{refl}
+use Rattle.std.proofs.Common.{refl, ap, ◌∙◌}
+use Rattle.filter.specs.Daily.{invalid_yesterday}
 use Rattle.filter.proofs.Days.{missing_day, present_day, a_flow}
 use Rattle.filter.proofs.usable.Filter.advance.Goals as goal
 
@@ -14,4 +15,4 @@ returns-then-day-eq-MISSING c =
 pub returns : goal.returns
 returns c =
     let both = present_day c.args.self.setting c.args.state _ c.if-day-eq-MISSING.false (a_flow _ c.requires.1 c.if-day-eq-MISSING.false) c.present-base.ensures.value c.present-base.ensures.below in
-    record { state_value = both.0; next_yesterday = both.1 }
+    record { state_value = (c.after.ensures ∙ both.0.0, both.0.1); next_yesterday = (ap (λ x. invalid_yesterday x.yesterday) c.after.ensures ∙ both.1.0, both.1.1) }
