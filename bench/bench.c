@@ -19,7 +19,7 @@ static const uint32_t sizes[SIZES] = {1000, 10000, MOST};
 enum input { FLOWS, GAPS, MIXED, LATE, SUMMERS, LENGTHS, TWOS };
 enum call {
     READ, FILTER, STEP, LINE, TOTALS, RECESSION, BFIMAX, STAGGERED, HALF_LIFE, METER, TO_BITS, FROM_BITS, FILTER_BITS,
-    TOTALS_BITS, RECESSION_BITS, FILTER_FROM
+    TOTALS_BITS, RECESSION_BITS, FILTER_FROM, WRITE
 };
 
 static const struct job {
@@ -69,6 +69,8 @@ static const struct job {
     {"totals over bits, few gaps", TOTALS_BITS, GAPS, 0, 0, 0, 0, 0},
     {"ratios over bits, L 2", RECESSION_BITS, GAPS, 2, 0, 0, 0, 0},
     {"filter from start, method 1", FILTER_FROM, GAPS, 1, 9250, 0, 0, 1},
+    {"write, few gaps", WRITE, GAPS, 0, 0, 0, 0, 0},
+    {"write, many gaps", WRITE, MIXED, 0, 0, 0, 0, 0},
 };
 enum { JOBS = sizeof jobs / sizeof *jobs };
 
@@ -88,6 +90,7 @@ static struct result {
     uint64_t base[MOST], work[30 * MOST];
     uint32_t flows[MOST];
     uint64_t words[(MOST + 63) / 64];
+    uint8_t bytes[5 * (MOST + 2)];
 } engine_result, reference_result;
 
 // ---- input
@@ -232,6 +235,9 @@ static uintptr_t stack_before;
         switch ((job)->call) {                                                                                         \
         case READ:                                                                                                     \
             (r)->answer = prefix##read(bytes, bytes_len, (r)->days, MOST, &(r)->small[0], &(r)->small[1]);             \
+            break;                                                                                                     \
+        case WRITE:                                                                                                    \
+            (r)->answer = prefix##write(0, days, count, (r)->bytes, sizeof (r)->bytes, &(r)->small[0]);                \
             break;                                                                                                     \
         case FILTER:                                                                                                   \
             (r)->answer = prefix##filter((job)->first, (job)->p, (job)->q, (job)->s, (job)->passes, days, count,       \

@@ -112,7 +112,8 @@ enum baseflow_answer {
     BASEFLOW_BAD_READING = 26,     /* a reading that is not finite, or below zero */
     BASEFLOW_READING_TOO_LARGE = 27, /* a reading of more than 10,000,000 litres a second */
     BASEFLOW_BAD_PRESENCE = 28,    /* presence words that are too many or too few, a one past the last day, or a flow under a zero */
-    BASEFLOW_START_TOO_HIGH = 29   /* a start that is given lies above 1000 * the first present flow */
+    BASEFLOW_START_TOO_HIGH = 29,  /* a start that is given lies above 1000 * the first present flow */
+    BASEFLOW_OUTPUT_SHORT = 30     /* an output list that is shorter than the record */
 };
 
 /*
@@ -124,6 +125,17 @@ enum baseflow_answer {
  */
 uint32_t baseflow_read(const uint8_t *bytes, size_t bytes_len, uint32_t *days, size_t days_len, uint32_t *first_day,
                        uint32_t *day_count);
+
+/*
+ * Writes the record of a first day (0 to 99,999) and a day list, in its one form: a single missing day as kind 03, a longer
+ * gap as one kind 04. Equal rivers have equal bytes, and baseflow_read gives the first day and the days back.
+ *
+ * Refuses: 9, 4, 10, 30.
+ * On 0: *record_len bytes are written from the start of `bytes`, the rest of it is left as it was. 10 + 5 * days_len bytes
+ * are always enough.
+ */
+uint32_t baseflow_write(uint32_t first_day, const uint32_t *days, size_t days_len, uint8_t *bytes, size_t bytes_len,
+                        uint32_t *record_len);
 
 /*
  * Separates base flow with a recursive filter. Each stretch of present days is filtered alone.

@@ -59,6 +59,58 @@
     X(READ_MOST_DAYS, "read", "accepted, 36,525 days")                                                                 \
     X(READ_FULL, "read", "accepted, list filled")                                                                      \
     X(READ_REST, "read", "accepted, rest of list left")                                                                \
+    X(READ_WRITTEN, "read", "accepted, then written in as many bytes")                                                 \
+    X(READ_SHORTER, "read", "accepted, then written in fewer")                                                         \
+    X(READ_LONGER, "read", "accepted, then written in more")                                                           \
+    X(WRITE_9, "write", "refused 9")                                                                                   \
+    X(WRITE_9_NEXT, "write", "refused 9, 36,526 days")                                                                 \
+    X(WRITE_9_FIRST, "write", "refused 9, where 4 holds too")                                                          \
+    X(WRITE_9_DAY, "write", "refused 9, where 10 holds too")                                                           \
+    X(WRITE_9_ROOM, "write", "refused 9, where 30 holds too")                                                          \
+    X(WRITE_4_NEXT, "write", "refused 4, first day 100,000")                                                           \
+    X(WRITE_4_MOST, "write", "refused 4, first day 2^32 - 1")                                                          \
+    X(WRITE_4_DAY, "write", "refused 4, where 10 holds too")                                                           \
+    X(WRITE_4_ROOM, "write", "refused 4, where 30 holds too")                                                          \
+    X(WRITE_10_NEXT, "write", "refused 10, flow 10,000,001")                                                           \
+    X(WRITE_10_MARK, "write", "refused 10, one below the mark")                                                        \
+    X(WRITE_10_LAST, "write", "refused 10, the last day alone")                                                        \
+    X(WRITE_10_ROOM, "write", "refused 10, where 30 holds too")                                                        \
+    X(WRITE_30_NEXT, "write", "refused 30, a byte short")                                                              \
+    X(WRITE_30_END, "write", "refused 30, room for all but the end")                                                   \
+    X(WRITE_30_EMPTY, "write", "refused 30, no byte")                                                                  \
+    X(WRITE_30_NO_DAY, "write", "refused 30, no day")                                                                  \
+    X(WRITE_30_GAPS, "write", "refused 30, gaps alone")                                                                \
+    X(WRITE_30_MOST, "write", "refused 30, 36,525 days")                                                               \
+    X(WRITE_NO_DAY, "write", "accepted, no day")                                                                       \
+    X(WRITE_FIRST_0, "write", "accepted, first day 0")                                                                 \
+    X(WRITE_FIRST_LAST, "write", "accepted, first day 99,999")                                                         \
+    X(WRITE_MOST_FLOW, "write", "accepted, flow 10,000,000")                                                           \
+    X(WRITE_DRY, "write", "accepted, flow 0")                                                                          \
+    X(WRITE_FLOWS, "write", "accepted, no gap")                                                                        \
+    X(WRITE_GAPS, "write", "accepted, several gaps")                                                                   \
+    X(WRITE_1_WHOLE, "write", "accepted, a gap of 1 day alone")                                                        \
+    X(WRITE_1_START, "write", "accepted, a gap of 1 day at the start")                                                 \
+    X(WRITE_1_MIDDLE, "write", "accepted, a gap of 1 day between flows")                                               \
+    X(WRITE_1_END, "write", "accepted, a gap of 1 day at the end")                                                     \
+    X(WRITE_2_WHOLE, "write", "accepted, a gap of 2 days alone")                                                       \
+    X(WRITE_2_START, "write", "accepted, a gap of 2 days at the start")                                                \
+    X(WRITE_2_MIDDLE, "write", "accepted, a gap of 2 days between flows")                                              \
+    X(WRITE_2_END, "write", "accepted, a gap of 2 days at the end")                                                    \
+    X(WRITE_3_WHOLE, "write", "accepted, a longer gap alone")                                                          \
+    X(WRITE_3_START, "write", "accepted, a longer gap at the start")                                                   \
+    X(WRITE_3_MIDDLE, "write", "accepted, a longer gap between flows")                                                 \
+    X(WRITE_3_END, "write", "accepted, a longer gap at the end")                                                       \
+    X(WRITE_GAP_3, "write", "accepted, a gap of 3 days")                                                               \
+    X(WRITE_GAP_255, "write", "accepted, a gap of 255 days")                                                           \
+    X(WRITE_GAP_256, "write", "accepted, a gap of 256 days")                                                           \
+    X(WRITE_GAP_257, "write", "accepted, a gap of 257 days")                                                           \
+    X(WRITE_GAP_512, "write", "accepted, a gap of 512 days")                                                           \
+    X(WRITE_GAP_MOST, "write", "accepted, a gap of 36,525 days")                                                       \
+    X(WRITE_MOST_DAYS, "write", "accepted, 36,525 days")                                                               \
+    X(WRITE_MOST_BYTES, "write", "accepted, 36,525 days without a gap")                                                \
+    X(WRITE_FULL, "write", "accepted, output filled")                                                                  \
+    X(WRITE_ONE_LEFT, "write", "accepted, a byte behind the record")                                                   \
+    X(WRITE_REST, "write", "accepted, more bytes behind it")                                                           \
     X(FILTER_11, "filter", "refused 11")                                                                               \
     X(FILTER_12_P_LOW, "filter", "refused 12, p low")                                                                  \
     X(FILTER_12_P_HIGH, "filter", "refused 12, p high")                                                                \
@@ -557,7 +609,7 @@ void print_branches(void)
 // ---- the record
 
 // Walks over the entries to the first that could be refused, or to the end entry.
-static void count_read(const struct test_case *c, uint32_t answer, const struct outs *outs)
+static void count_read(const struct test_case *c, uint32_t answer, const struct outs *outs, const uint32_t *days)
 {
     size_t at = 0, total = 0, seen[10] = {0}, most_flows = 0;
     uint32_t kind = 0, value = 0;
@@ -620,6 +672,93 @@ static void count_read(const struct test_case *c, uint32_t answer, const struct 
         hit_if(most_flows > 0, READ_MOST_FLOW);
         hit_if(total == MOST_DAYS, READ_MOST_DAYS);
         hit(total == c->days_len ? READ_FULL : READ_REST);
+        size_t written = record_length(days, total);
+        hit(written == c->bytes_len ? READ_WRITTEN : written < c->bytes_len ? READ_SHORTER : READ_LONGER);
+    }
+}
+
+static int is_bad(uint32_t day)
+{
+    return day > MOST_FLOW && day != MISSING;
+}
+
+// The first day that is neither a flow nor missing, or the number of days.
+static size_t first_bad(const struct test_case *c)
+{
+    size_t t = 0;
+    while (t < c->days_len && !is_bad(c->days[t]))
+        t++;
+    return t;
+}
+
+// A gap from day t on: how long it is, and where it lies.
+static void count_gap(const struct test_case *c, size_t t, size_t gap)
+{
+    static const size_t lengths[] = {3, 255, 256, 257, 512, MOST_DAYS};
+    enum branch row = gap == 1 ? WRITE_1_WHOLE : gap == 2 ? WRITE_2_WHOLE : WRITE_3_WHOLE;
+    int starts = t == 0, ends = t + gap == c->days_len;
+    hit(behind(row, starts && ends ? 0 : starts ? 1 : ends ? 3 : 2));
+    for (uint32_t i = 0; i < sizeof lengths / sizeof *lengths; i++)
+        hit_if(gap == lengths[i], behind(WRITE_GAP_3, i));
+}
+
+static void count_written(const struct test_case *c, size_t length)
+{
+    size_t gaps = 0, most = 0, dry = 0;
+    for (size_t t = 0, gap; t < c->days_len; t += gap == 0 ? 1 : gap) {
+        for (gap = 0; t + gap < c->days_len && c->days[t + gap] == MISSING;)
+            gap++;
+        if (gap > 0)
+            count_gap(c, t, gap);
+        gaps += gap > 0;
+        most += c->days[t] == MOST_FLOW;
+        dry += c->days[t] == 0;
+    }
+    hit_if(c->days_len == 0, WRITE_NO_DAY);
+    hit_if(c->first_day == 0, WRITE_FIRST_0);
+    hit_if(c->first_day == MOST_FIRST_DAY, WRITE_FIRST_LAST);
+    hit_if(most > 0, WRITE_MOST_FLOW);
+    hit_if(dry > 0, WRITE_DRY);
+    hit_if(c->days_len > 0 && gaps == 0, WRITE_FLOWS);
+    hit_if(gaps > 1, WRITE_GAPS);
+    hit_if(c->days_len == MOST_DAYS, gaps == 0 ? WRITE_MOST_BYTES : WRITE_MOST_DAYS);
+    hit(c->bytes_len == length ? WRITE_FULL : c->bytes_len == length + 1 ? WRITE_ONE_LEFT : WRITE_REST);
+}
+
+static void count_write(const struct test_case *c, uint32_t answer)
+{
+    size_t length = record_length(c->days, c->days_len), bad = first_bad(c);
+    int no_room = c->bytes_len < length;
+    switch (answer) {
+    case 9:
+        hit(WRITE_9);
+        hit_if(c->days_len == MOST_DAYS + 1, WRITE_9_NEXT);
+        hit_if(c->first_day > MOST_FIRST_DAY, WRITE_9_FIRST);
+        hit_if(bad < c->days_len, WRITE_9_DAY);
+        hit_if(no_room, WRITE_9_ROOM);
+        break;
+    case 4:
+        hit_if(c->first_day == MOST_FIRST_DAY + 1, WRITE_4_NEXT);
+        hit_if(c->first_day == UINT32_MAX, WRITE_4_MOST);
+        hit_if(bad < c->days_len, WRITE_4_DAY);
+        hit_if(no_room, WRITE_4_ROOM);
+        break;
+    case 10:
+        hit_if(c->days[bad] == MOST_FLOW + 1, WRITE_10_NEXT);
+        hit_if(c->days[bad] == MISSING - 1, WRITE_10_MARK);
+        hit_if(bad > 0 && bad + 1 == c->days_len, WRITE_10_LAST);
+        hit_if(no_room, WRITE_10_ROOM);
+        break;
+    case 30:
+        hit_if(c->bytes_len + 1 == length, WRITE_30_NEXT);
+        hit_if(c->bytes_len + 5 == length, WRITE_30_END);
+        hit_if(c->bytes_len == 0, WRITE_30_EMPTY);
+        hit_if(c->days_len == 0, WRITE_30_NO_DAY);
+        hit_if(c->days_len > 0 && first_present(c) == c->days_len, WRITE_30_GAPS);
+        hit_if(c->days_len == MOST_DAYS, WRITE_30_MOST);
+        break;
+    default:
+        count_written(c, length);
     }
 }
 
@@ -1787,12 +1926,15 @@ static void count_over_bits(const struct test_case *c, uint32_t answer)
         hit_if(answer == calls[i].behind[n], row);
 }
 
-void count_branch(const struct test_case *c, uint32_t answer, const struct outs *outs, const uint64_t *base,
-                  const uint64_t *work)
+void count_branch(const struct test_case *c, uint32_t answer, const struct outs *outs, const uint32_t *days,
+                  const uint64_t *base, const uint64_t *work)
 {
     switch (c->call) {
     case READ:
-        count_read(c, answer, outs);
+        count_read(c, answer, outs, days);
+        break;
+    case WRITE:
+        count_write(c, answer);
         break;
     case FILTER:
         count_filter(c, answer, base);

@@ -8,7 +8,8 @@
 //
 // Each list ends where readable memory ends, so that a call that reads or writes behind it is stopped, and has guard
 // bytes before it. Lists that a call has no business to write, and everything after a refusal, are held to what they
-// were before the call.
+// were before the call. What the engine writes as a record, it has to read as the days that it wrote; the days of a
+// record that it reads, it has to write, and to read again.
 #define _GNU_SOURCE
 #include <inttypes.h>
 #include <setjmp.h>
@@ -27,9 +28,9 @@ enum list { BYTES, DAYS, BASE, LIMBS, WORK, FLOWS, WORDS, LISTS };
 enum { GUARD = 64, GUARD_BYTE = 0x5a };
 
 static const char *const call_names[CALLS] = {
-    "read", "filter", "filter_from", "step", "steps", "line", "totals", "recession", "bfimax", "staggered", "half_life",
-    "meter", "to_bits", "from_bits", "filter_bits", "line_bits", "totals_bits", "recession_bits", "bfimax_bits",
-    "staggered_bits", "filter_from_bits",
+    "read", "write", "filter", "filter_from", "step", "steps", "line", "totals", "recession", "bfimax", "staggered",
+    "half_life", "meter", "to_bits", "from_bits", "filter_bits", "line_bits", "totals_bits", "recession_bits",
+    "bfimax_bits", "staggered_bits", "filter_from_bits",
 };
 static const char *const list_names[LISTS] = {"bytes", "days", "base", "limbs", "work", "flows", "words"};
 static const size_t widths[LISTS] = {1, 4, 8, 4, 8, 4, 8};
@@ -69,7 +70,8 @@ static const void *content(const struct test_case *c, enum list list)
 static int may_write(enum call of, enum list list)
 {
     enum call call = sister_of(of);
-    return ((call == READ || call == FROM_BITS) && list == DAYS) || (call == RECESSION && list == LIMBS) ||
+    return (call == WRITE && list == BYTES) || ((call == READ || call == FROM_BITS) && list == DAYS) ||
+           (call == RECESSION && list == LIMBS) ||
            ((call == FILTER || call == FILTER_FROM || call == LINE || call == BFIMAX || call == STAGGERED) &&
             list == BASE) ||
            (call == STAGGERED && list == WORK) || (call == TO_BITS && (list == FLOWS || list == WORDS));
@@ -85,6 +87,8 @@ static int may_write(enum call of, enum list list)
         switch (c->call) {                                                                                             \
         case READ:                                                                                                     \
             return prefix##read(lists[BYTES], c->bytes_len, lists[DAYS], c->days_len, &small[0], &small[1]);           \
+        case WRITE:                                                                                                    \
+            return prefix##write(c->first_day, lists[DAYS], c->days_len, lists[BYTES], c->bytes_len, &small[0]);       \
         case FILTER:                                                                                                   \
             return prefix##filter(c->method, c->p, c->q, c->s, c->passes, lists[DAYS], c->days_len, lists[BASE],       \
                                   c->base_len);                                                                        \
@@ -232,6 +236,44 @@ static const char *compare_steps(const struct test_case *c)
     return NULL;
 }
 
+// ---- laws of the engine alone, over what it wrote and read
+
+static const uint8_t other_bytes[] = {0x00, 0xff, 0x03};
+
+// Writes days that were accepted over other bytes, and reads what was written. Where they were written before, it has
+// to be the same record again, in just its room; where they were read, there is more room. NULL where all is well.
+static const char *read_again(uint32_t first_day, const uint32_t *days, size_t days_len, const uint8_t *written,
+                              size_t written_len)
+{
+    static uint8_t bytes[ROOM_BYTES];
+    static uint32_t days_read[ROOM_DAYS];
+    uint32_t length = 0, first_read = 0, count = 0;
+    size_t room = written != NULL ? written_len : record_length(days, days_len) + 3;
+    running = &engine;
+    memset(bytes, other_bytes[days_len % sizeof other_bytes], room);
+    if (baseflow_write(first_day, days, days_len, bytes, room, &length) != 0)
+        return "days that were accepted cannot be written";
+    if (length > room)
+        return "a record is longer than its output";
+    if (written != NULL && (length != written_len || memcmp(bytes, written, length) != 0))
+        return "the same days give another record";
+    if (baseflow_read(bytes, length, days_read, days_len, &first_read, &count) != 0)
+        return "a record that was written cannot be read";
+    if (first_read != first_day || count != days_len || memcmp(days_read, days, days_len * sizeof *days) != 0)
+        return "a record that was written states other days";
+    return NULL;
+}
+
+// An accepted writing leaves what is behind the record, and its days come back.
+static const char *compare_written(const struct test_case *c)
+{
+    uint32_t length = engine.outs.small[0];
+    const uint8_t *bytes = engine.lists[BYTES];
+    if (length > c->bytes_len || memcmp(bytes + length, c->bytes + length, c->bytes_len - length) != 0)
+        return "bytes behind the record were written";
+    return read_again(c->first_day, c->days, c->days_len, bytes, length);
+}
+
 // How the two sides differ on a case; NULL where they agree.
 static const char *difference(const struct test_case *c)
 {
@@ -254,6 +296,10 @@ static const char *difference(const struct test_case *c)
     for (enum list list = 0; list < LISTS; list++)
         if (memcmp(engine.lists[list], reference.lists[list], size(c, list)) != 0)
             return "a list differs";
+    if (engine.answer == 0 && c->call == WRITE)
+        return compare_written(c);
+    if (engine.answer == 0 && c->call == READ)
+        return read_again(engine.outs.small[0], engine.lists[DAYS], engine.outs.small[1], NULL, 0);
     return NULL;
 }
 
@@ -310,14 +356,24 @@ static void cut_bits(struct test_case *c, size_t at, size_t count, size_t count_
     c->words_len -= dropped < c->words_len ? dropped : c->words_len;
 }
 
+// Cuts the room for a record as its days were: it is as far from the record's length as it was.
+static void cut_room(struct test_case *c, size_t record_before)
+{
+    size_t shorter = record_before - record_length(c->days, c->days_len);
+    c->bytes_len -= shorter < c->bytes_len ? shorter : c->bytes_len;
+}
+
 static void cut(struct test_case *c, enum list list, size_t at, size_t count)
 {
     uint8_t *from = (void *[]){c->bytes, c->days, c->base, c->limbs, c->work, c->flows, c->words}[list];
     size_t width = widths[list], before = length(c, list), behind = before - at - count;
+    size_t record_before = c->call == WRITE ? record_length(c->days, c->days_len) : 0;
     memmove(from + at * width, from + (at + count) * width, behind * width);
     *length_of(c, list) -= count;
     if (list != given(c->call))
         return;
+    if (c->call == WRITE)
+        cut_room(c, record_before);
     if (c->call == TO_BITS || list == FLOWS)
         cut_bits(c, at, count, before);
     if (at + count <= c->last_day && c->last_day < before)
@@ -450,6 +506,8 @@ static void print_outs(enum call of, const struct outs *o)
     enum call call = sister_of(of);
     if (call == READ)
         printf(" first_day %" PRIu32 ", day_count %" PRIu32, o->small[0], o->small[1]);
+    if (call == WRITE)
+        printf(" record_len %" PRIu32, o->small[0]);
     if (call == STEP || call == STEPS)
         printf(" has_yesterday %" PRIu32 ", flow %" PRIu32 ", base %" PRIu64 ", value %" PRIu64, o->small[0],
                o->small[1], o->large[0], o->large[1]);
@@ -472,6 +530,8 @@ static void print_outs(enum call of, const struct outs *o)
 static void print_arguments(const struct test_case *c)
 {
     enum call call = sister_of(c->call);
+    if (call == WRITE)
+        printf("  first_day %" PRIu32 "\n", c->first_day);
     if (call == FILTER || call == FILTER_FROM || call == STEP || call == STEPS)
         printf("  method %" PRIu32 ", p %" PRIu32 ", q %" PRIu32 ", s %" PRId32 "\n", c->method, c->p, c->q, c->s);
     if (call == FILTER || call == FILTER_FROM)
@@ -536,7 +596,8 @@ int main(int argc, char **argv)
             report(&smallest);
             return 1;
         }
-        count_branch(&c, reference.answer, &reference.outs, reference.lists[BASE], reference.lists[WORK]);
+        count_branch(&c, reference.answer, &reference.outs, reference.lists[DAYS], reference.lists[BASE],
+                     reference.lists[WORK]);
     }
     print_branches();
     return 0;

@@ -12,8 +12,9 @@ enum { MOST_FLOW = 10000000, MOST_DAYS = 36525, MOST_FIRST_DAY = 99999, MOST_DUR
 
 // STEPS is no call of its own: daily steps from a fresh state over a day list, held to pass 1 of the filter.
 enum call {
-    READ, FILTER, FILTER_FROM, STEP, STEPS, LINE, TOTALS, RECESSION, BFIMAX, STAGGERED, HALF_LIFE, METER, TO_BITS,
-    FROM_BITS, FILTER_BITS, LINE_BITS, TOTALS_BITS, RECESSION_BITS, BFIMAX_BITS, STAGGERED_BITS, FILTER_FROM_BITS, CALLS
+    READ, WRITE, FILTER, FILTER_FROM, STEP, STEPS, LINE, TOTALS, RECESSION, BFIMAX, STAGGERED, HALF_LIFE, METER,
+    TO_BITS, FROM_BITS, FILTER_BITS, LINE_BITS, TOTALS_BITS, RECESSION_BITS, BFIMAX_BITS, STAGGERED_BITS,
+    FILTER_FROM_BITS, CALLS
 };
 
 // The call over days that goes with a call over presence bits; any other call itself.
@@ -36,6 +37,7 @@ struct outs {
 // over presence bits has those of its sister, with flows and words in place of the days.
 struct test_case {
     enum call call;
+    uint32_t first_day;            // WRITE
     uint32_t method, p, q, passes; // FILTER, FILTER_FROM, STEP and STEPS; p also BFIMAX and HALF_LIFE
     int32_t s;                     // FILTER, FILTER_FROM, STEP and STEPS
     uint64_t start;                // FILTER_FROM
@@ -74,6 +76,9 @@ static inline size_t first_present(const struct test_case *c)
     return t;
 }
 
+// The number of bytes of the record of days.
+size_t record_length(const uint32_t *days, size_t days_len);
+
 // The counted limbs of a case of RECESSION, and what else is seen on the way.
 struct limb_view {
     size_t counted, exact, shorter, at_gap;
@@ -90,8 +95,8 @@ struct limb_view view_limbs(const struct test_case *c);
 void generate(struct test_case *c, uint64_t seed, uint64_t number);
 
 // Counts the branch that a case took, from its arguments, the agreed answer and what was written.
-void count_branch(const struct test_case *c, uint32_t answer, const struct outs *outs, const uint64_t *base,
-                  const uint64_t *work);
+void count_branch(const struct test_case *c, uint32_t answer, const struct outs *outs, const uint32_t *days,
+                  const uint64_t *base, const uint64_t *work);
 void print_branches(void);
 
 #endif

@@ -3,9 +3,10 @@
 
     tests/exact.py
 
-Each record is read, separated, stepped through day by day and totalled by the engine (include/baseflow.h). The days
-and the setting are worked out anew with fractions: document 01's rules, near left out. It fails with a message where a
-figure lies outside its limit, a day has a value in one run only, or a refusal is not the one that the rules give.
+Each record is written, read, separated, stepped through day by day and totalled by the engine (include/baseflow.h).
+The days and the setting are worked out anew with fractions: document 01's rules, near left out. It fails with a message
+where a figure lies outside its limit, a day has a value in one run only, or a refusal is not the one that the rules
+give. What is written has to be the record that the rules make of the days.
 BFImax has runs of its own: the limit of each of its values counts the days up to the next one behind it on which both
 runs have the whole flow. Filters from a start that is given have runs of their own, too: each within the limit of its
 filter, and for methods 1 to 6 any two of them as close to each other as their rule says; a river with more flow has no
@@ -156,8 +157,9 @@ def refused(call, *arguments):
 
 def measure(engine, setting, first, stated, shares):
     method, p, q, s, n = setting
-    assert engine.read(rules.record(first, stated)) == (first, stated), "other days than the record states"
-    days = stated
+    data, days = rules.record(first, stated), stated
+    assert engine.write(first, days) == data, "another record than that of the days"
+    assert engine.read(data) == (first, days), "other days than the record states"
     number, base = refused(engine.line, n, p, days) if method == LINE else refused(engine.filter, *setting, days)
     wanted = refusal(*setting, days)
     assert number == wanted, f"base flow answers {number}, where {wanted} is due"
@@ -442,6 +444,11 @@ def worked_rivers(engine):
         """What a call answers to each."""
         return [refused(call, form)[0] for form in forms]
 
+    def record(entries, first=0):
+        """A record by its entries between the head and the end, and the days that the end counts."""
+        *parts, count = entries.split()
+        return bytes.fromhex("01" + first.to_bytes(4, "little").hex() + "".join(parts) + f"09{count}000000")
+
     def bits_of(days):
         form, present = engine.to_bits(days)
         return form.flows, form.words, present
@@ -584,6 +591,23 @@ def worked_rivers(engine):
         ("over bits, before 28", [refused(call, *words, Bits([1], [1, 0]))[0] for call, *words in (
             (engine.filter, 1, 9250, 0, 0, 4), (engine.line, 31, 9000), (engine.staggered, 2, 9000, 4),
             (engine.bfimax, 0, 2, 0), (engine.bfimax, 0, 1, 9700))], [13, 16, 16, 12, 23]),
+        ("written, no day", engine.write(0, []), record("00")),
+        ("written, a missing day", engine.write(7, [5, None, 7]), record("02 05000000 03 02 07000000 03", 7)),
+        ("written, two missing days", engine.write(0, [None] * 2), record("04 0200 02")),
+        ("written, gaps at both ends", engine.write(0, [None, 5, None, None]), record("03 02 05000000 04 0200 04")),
+        ("written, gaps of 3, 255, 256 and all days", [engine.write(0, [None] * n)[5:-5].hex()
+                                                       for n in (3, 255, 256, 36525)],
+         ["040300", "04ff00", "040001", "04ad8e"]),
+        ("written, what was read", engine.write(*engine.read(record("03 03 04 0100 04 0200 02 05000000 06", 99_999))),
+         record("04 0500 02 05000000 06", 99_999)),
+        ("written, room to the byte", [refused(engine.write, 0, [None] * 2, room)[0] for room in (0, 12, 13, 14)],
+         [30, 30, None, None]),
+        ("written, first day 99,999 and 100,000", numbers(lambda first: engine.write(first, []), 99_999, 100_000),
+         [None, 4]),
+        ("written, 36,525 and 36,526 days", numbers(lambda n: engine.write(0, [1] * n), 36525, 36526), [None, 9]),
+        ("written, 9, 4, 10 and 30", [refused(engine.write, first, [flow] * n, 0)[0] for first, flow, n in (
+            (100_000, 10_000_001, 36526), (100_000, 10_000_001, 1), (99_999, 10_000_001, 1), (99_999, 10_000_000, 1))],
+         [9, 4, 10, 30]),
         ("zero days", engine.read(bytes.fromhex("01 00000000 09 00000000")), (0, [])),
         ("no bytes", refused(engine.read, b"")[0], 1),
     ]

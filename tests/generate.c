@@ -1,8 +1,9 @@
 // The generator of the differential runs. It aims at the edges of document 01: limits and their neighbours, marks,
 // ties, quotients at a half, falls through gaps, dry spells, limbs of chosen lengths, falls that are not at base
 // everywhere, recessions as BFImax sees them, full lists, lists of different lengths, records damaged by cutting,
-// flipping and inserting, floats of every exponent, at halves between two litres, and beside the limits, lists that
-// end round a word's last bit, with damaged words, and starts at both ends of their range and beyond.
+// flipping and inserting, gaps of one, two and some 256 days anywhere and room for just their record, floats of every
+// exponent, at halves between two litres, and beside the limits, lists that end round a word's last bit, with damaged
+// words, and starts at both ends of their range and beyond.
 #include <string.h>
 
 #include "differential.h"
@@ -694,6 +695,62 @@ static void make_read(struct test_case *c)
         c->days[t] = (uint32_t)draw();
 }
 
+// Gaps, one to three days from each other, of which many have one day, two, or about 256 or 512; or one gap, or none.
+// The list begins and ends with either.
+static void fill_gaps(struct test_case *c)
+{
+    uint32_t style = below(STYLES), flow = below(300);
+    uint32_t room = one_in(100) ? MOST_DAYS : one_in(6) ? 1200 : between(1, 30);
+    int gap = one_in(2), alone = one_in(8);
+    for (c->days_len = 0; c->days_len < room; gap = !gap) {
+        uint32_t count = gap && one_in(2) ? AMONG(2, 2, 2, 3, 254, 255, 256, 257, 511, 512, 513) : between(1, 3);
+        for (count = alone ? room : count; count > 0 && c->days_len < room; count--) {
+            flow = flow_of(style, flow);
+            c->days[c->days_len++] = gap ? MISSING : flow;
+        }
+    }
+    spoil_day(c);
+}
+
+size_t record_length(const uint32_t *days, size_t days_len)
+{
+    size_t length = 10, gap = 0; // the days of the gap so far
+    for (size_t t = 0; t < days_len; t++) {
+        gap = days[t] == MISSING ? gap + 1 : 0;
+        length += gap == 0 ? 5 : gap == 1 ? 1 : gap == 2 ? 2 : 0;
+    }
+    return length;
+}
+
+// Room for the record, to the byte or not, with any bytes in it or the same one everywhere.
+static void fill_room(struct test_case *c)
+{
+    size_t length = record_length(c->days, c->days_len), more = length + between(1, one_in(4) ? 300 : 6);
+    uint8_t content = (uint8_t)AMONG(0, 3, 9, 0xff);
+    int same = one_in(2);
+    c->bytes_len = one_in(2) ? length : more < ROOM_BYTES ? more : ROOM_BYTES;
+    if (spoil() || one_in(10))
+        c->bytes_len = one_in(2) ? length - 1 : one_in(2) ? length - between(2, 7) : below((uint32_t)length);
+    for (size_t i = 0; i < c->bytes_len; i++)
+        c->bytes[i] = same ? content : (uint8_t)draw();
+}
+
+static void make_write(struct test_case *c)
+{
+    c->first_day = one_in(3) ? AMONG(0, 1, 255, 256, 65535, 65536, MOST_FIRST_DAY - 1, MOST_FIRST_DAY)
+                             : below(MOST_FIRST_DAY + 1);
+    if (spoil())
+        c->first_day = AMONG(MOST_FIRST_DAY + 1, MOST_FIRST_DAY + 2, 0x10000000, 0x80000000, MISSING);
+    if (one_in(3))
+        fill_days(c);
+    else
+        fill_gaps(c);
+    if (spoil() && one_in(20)) // 9 beside other causes
+        for (size_t count = MOST_DAYS + AMONG(1, 1, 2, 60); c->days_len < count;)
+            c->days[c->days_len++] = MISSING;
+    fill_room(c);
+}
+
 static void make_half_life(struct test_case *c)
 {
     c->p = spoil()     ? AMONG(0, 1000, 1001, MISSING, 65536 + 500)
@@ -877,12 +934,12 @@ static void make_over_bits(struct test_case *c)
 void generate(struct test_case *c, uint64_t seed, uint64_t number)
 {
     static void (*const make[CALLS])(struct test_case *) = {
-        [READ] = make_read,     [FILTER] = make_filter, [STEP] = make_step,           [STEPS] = make_steps,
-        [LINE] = make_line,     [TOTALS] = make_totals, [RECESSION] = make_recession, [BFIMAX] = make_bfimax,
-        [STAGGERED] = make_staggered, [HALF_LIFE] = make_half_life, [METER] = make_meter,
-        [TO_BITS] = make_to_bits, [FROM_BITS] = make_from_bits, [FILTER_BITS] = make_over_bits,
-        [LINE_BITS] = make_over_bits, [TOTALS_BITS] = make_over_bits, [RECESSION_BITS] = make_over_bits,
-        [BFIMAX_BITS] = make_over_bits, [STAGGERED_BITS] = make_over_bits, [FILTER_FROM] = make_filter_from,
+        [READ] = make_read, [WRITE] = make_write, [FILTER] = make_filter, [FILTER_FROM] = make_filter_from,
+        [STEP] = make_step, [STEPS] = make_steps, [LINE] = make_line, [TOTALS] = make_totals,
+        [RECESSION] = make_recession, [BFIMAX] = make_bfimax, [STAGGERED] = make_staggered,
+        [HALF_LIFE] = make_half_life, [METER] = make_meter, [TO_BITS] = make_to_bits, [FROM_BITS] = make_from_bits,
+        [FILTER_BITS] = make_over_bits, [LINE_BITS] = make_over_bits, [TOTALS_BITS] = make_over_bits,
+        [RECESSION_BITS] = make_over_bits, [BFIMAX_BITS] = make_over_bits, [STAGGERED_BITS] = make_over_bits,
         [FILTER_FROM_BITS] = make_over_bits,
     };
     state = seed << 40 ^ number;
@@ -894,7 +951,8 @@ void generate(struct test_case *c, uint64_t seed, uint64_t number)
     }
     rough = one_in(5);
     uint32_t turn = below(100);
-    c->call = turn < 16   ? READ
+    c->call = turn < 12   ? READ
+              : turn < 16 ? WRITE
               : turn < 22 ? (enum call)(TO_BITS + below(CALLS - TO_BITS))
               : turn < 24 ? METER
               : turn < 33 ? FILTER

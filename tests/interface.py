@@ -94,6 +94,15 @@ class Engine:
                   ctypes.byref(count))
         return first.value, [None if day == MISSING else day for day in days[:count.value]]
 
+    def write(self, first, days, room=None):
+        """The record of days, in room for any of so many days, or in as many bytes as wanted."""
+        room, kept = 10 + 5 * len(days) if room is None else room, 0x5a
+        data, length = listed(ctypes.c_uint8, [kept] * room), ctypes.c_uint32()
+        self.call("write", ctypes.c_uint32(first), day_list(days), size(days), data, ctypes.c_size_t(room),
+                  ctypes.byref(length))
+        assert set(data[length.value:room]) <= {kept}, f"bytes behind the record's {length.value} were written"
+        return bytes(data[:length.value])
+
     def filter(self, method, p, q, s, passes, days, start=None):
         """The base flow, from the usual start or from one that is given."""
         base, words = listed(ctypes.c_uint64, [7] * len(days)), (*setting(method, p, q, s), ctypes.c_uint32(passes))

@@ -12,6 +12,12 @@ COUNT_TEST = "if (four_bytes(body) != count) return 7;"
 REST_TEST = "if (left > 4) return 8;"
 TOTAL_TEST = "if (count > MOST_DAYS) return 5;"
 ROOM_TEST = "if (count > days_len) return 6;"
+FIRST_DAY_TEST = "if (first_day > MOST_FIRST_DAY) return 4;"
+LENGTH = "uint32_t length = record_length(days, days_len);"
+OUTPUT_TEST = "if (bytes_len < length) return 30;"
+GAP_DAYS = "return end - t;"
+GAP_WRITTEN = "put(at, MISSING_DAYS, (uint32_t)gap, 2);"
+END_WRITTEN = "put(at, END, (uint32_t)days_len, 4);"
 BACKWARD = "if (passes >= 2) later_pass(&w, base + t - 1, t - start, -1);"
 FORWARD = "if (passes == 3) later_pass(&w, base + start, t - start, 1);"
 SUM = "w->a * f + w->b * u + (uint64_t)w->c * u_before"
@@ -145,7 +151,8 @@ FAULTS = (
     ("passes 2 and 3 are copies", f"{BACKWARD} if (passes == 3)", "if (passes == 4)"),
     ("method 2 takes p 3333", "3334", "3333"),
     ("10 before 14", f"{LENGTHS_TEST} {DAYS_TEST}", f"{DAYS_TEST} {LENGTHS_TEST}"),
-    ("a filter takes 36,526 days", "days_len > MOST_DAYS) return 9;", "days_len > MOST_DAYS + 1) return 9;"),
+    ("a filter takes 36,526 days", f"{MOST_DAYS_TEST} {LENGTHS_TEST}",
+     f"if (days_len > MOST_DAYS + 1) return 9; {LENGTHS_TEST}"),
     ("the middle bytes of a number are exchanged", "two_bytes(at) | two_bytes(at + 2) << 16",
      "at[0] | (uint32_t)at[2] << 8 | (uint32_t)at[1] << 16 | (uint32_t)at[3] << 24"),
     ("the high byte of a number is one place off", "two_bytes(at) | two_bytes(at + 2) << 16",
@@ -156,6 +163,47 @@ FAULTS = (
     ("reading goes a byte too far", "if (left < 4)", "if (left < 3)"),
     ("a day count is written on a refusal", "if (refusal != 0) return refusal; const uint8_t *at",
      "*day_count = 0; if (refusal != 0) return refusal; const uint8_t *at"),
+    ("a gap of two days is written as two of one", GAP_DAYS, "return end - t == 2 ? 1 : end - t;"),
+    ("a gap is written day by day", GAP_DAYS, "return end > t;"),
+    ("a gap of over 255 days is written as two", GAP_DAYS, "return smaller(end - t, 255);"),
+    ("a gap's number of days has one byte", GAP_WRITTEN, GAP_WRITTEN.replace("(uint32_t)gap", "(uint8_t)gap")),
+    ("a gap's days are written high byte first", GAP_WRITTEN,
+     GAP_WRITTEN.replace("(uint32_t)gap", "(uint16_t)(gap << 8 | gap >> 8)")),
+    ("a dry day is written as a missing one", LENGTH,
+     "uint32_t wet[MOST_DAYS]; for (size_t t = 0; t < days_len; t++) wet[t] = days[t] == 0 ? MISSING : days[t]; "
+     f"days = wet; {LENGTH}"),
+    ("a gap at the end is left out", LENGTH,
+     f"while (days_len > 0 && days[days_len - 1] == MISSING) days_len--; {LENGTH}"),
+    ("a gap at the start is left out", LENGTH,
+     f"for (; days_len > 0 && days[0] == MISSING; days_len--) {{ days++; first_day++; }} {LENGTH}"),
+    ("a number is written high byte first", "for (; body > 0; body--, number >>= 8) *at++ = (uint8_t)number;",
+     "while (body-- > 0) *at++ = (uint8_t)(number >> 8 * body);"),
+    ("the end counts the flows alone", END_WRITTEN,
+     "uint32_t flows = 0; for (size_t t = 0; t < days_len; t++) flows += days[t] != MISSING; put(at, END, flows, 4);"),
+    ("the end counts the entries", END_WRITTEN,
+     "uint32_t entries = 0; for (size_t t = 0; t < days_len; t++) "
+     "entries += t == 0 || days[t] != MISSING || days[t - 1] != MISSING; put(at, END, entries, 4);"),
+    ("no day is no record", OUTPUT_TEST, f"if (days_len == 0) {{ *record_len = 0; return 0; }} {OUTPUT_TEST}"),
+    ("a record's length is one off", "*record_len = length;", "*record_len = length - 1;"),
+    ("a record's length is the output's", "*record_len = length;", "*record_len = (uint32_t)bytes_len;"),
+    ("a byte behind the record is changed", "*record_len = length;",
+     "if (length < bytes_len) bytes[length] = 0; *record_len = length;"),
+    ("the output behind the record is cleared", "*record_len = length;",
+     "memset(bytes + length, 0, bytes_len - length); *record_len = length;"),
+    ("a writer takes 36,526 days", f"{MOST_DAYS_TEST} {FIRST_DAY_TEST}",
+     f"if (days_len > MOST_DAYS + 1) return 9; {FIRST_DAY_TEST}"),
+    ("first day 100,000 is written", FIRST_DAY_TEST, "if (first_day > MOST_FIRST_DAY + 1) return 4;"),
+    ("first day 99,999 is refused", FIRST_DAY_TEST, "if (first_day >= MOST_FIRST_DAY) return 4;"),
+    ("4 before 9", f"{MOST_DAYS_TEST} {FIRST_DAY_TEST}", f"{FIRST_DAY_TEST} {MOST_DAYS_TEST}"),
+    ("10 before 4", f"{FIRST_DAY_TEST} {DAYS_TEST}", f"{DAYS_TEST} {FIRST_DAY_TEST}"),
+    ("30 before 4", FIRST_DAY_TEST,
+     "if (first_day > MOST_FIRST_DAY) return bytes_len < record_length(days, days_len) ? 30 : 4;"),
+    ("30 before 10", f"{DAYS_TEST} {LENGTH} {OUTPUT_TEST}", f"{LENGTH} {OUTPUT_TEST} {DAYS_TEST}"),
+    ("room for a byte less is enough", OUTPUT_TEST, "if (bytes_len + 1 < length) return 30;"),
+    ("the output has to be just as long", OUTPUT_TEST, "if (bytes_len != length) return 30;"),
+    ("the output has to have room without gaps", OUTPUT_TEST, "if (bytes_len < 10 + 5 * days_len) return 30;"),
+    ("a head is written before 30", OUTPUT_TEST, f"if (bytes_len > 5) put(bytes, HEAD, first_day, 4); {OUTPUT_TEST}"),
+    ("a length is written before 30", OUTPUT_TEST, f"*record_len = length; {OUTPUT_TEST}"),
     ("the latest of equal minima", "days[t] < days[low]", "days[t] <= days[low]"),
     ("a turning point at equality", "factor * middle < 10000 * left", "factor * middle <= 10000 * left"),
     ("a dry block is compared like any other", "if (middle == 0) return 1;", ";"),

@@ -239,6 +239,22 @@ def any_days(rng):
     return [None if rng.random() < gap else rng.randrange(most + 1) for _ in range(length)]
 
 
+def loosely(rng, first, days):
+    """A record of these days that states its gaps in any parts."""
+    out, left = bytearray(tool.entry(tool.HEAD, first)), [*days]
+    while left:
+        gap = next((place for place, day in enumerate(left) if day is not None), len(left))
+        part = rng.randrange(1, gap + 1) if gap else 1
+        if gap == 0:
+            out += tool.entry(tool.FLOW, left[0])
+        elif part == 1 and rng.random() < 0.5:
+            out += tool.entry(tool.ONE_MISSING)
+        else:
+            out += tool.entry(tool.MISSING_DAYS, part)
+        del left[:part]
+    return bytes(out + tool.entry(tool.END, len(days)))
+
+
 def round_trips(rng, engines):
     for _ in range(600):
         first, days = rng.choice((0, 99_999, rng.randrange(100_000))), any_days(rng)
@@ -246,8 +262,12 @@ def round_trips(rng, engines):
         check(tool.read_record(data) == (first, days), f"{first}, {days[:9]} does not come back")
         for engine in engines:
             check(engine.read(data) == (first, days), f"the {engine.prefix} reads {first}, {days[:9]} otherwise")
+            check(engine.write(first, days) == data, f"the {engine.prefix} writes {first}, {days[:9]} otherwise")
         for form in (tool.Form("l"), tool.Form("m3")) if days else ():
             check(tool.to_record(tool.to_csv(data, form), form) == data, f"{first}, {days[:9]} by way of CSV")
+        loose = loosely(rng, first, days)
+        check(tool.read_record(loose) == (first, days), f"{first}, {days[:9]} in parts")
+        check(tool.normalize(loose, None) == tool.normalize(data, None) == data, f"{first}, {days[:9]} has two forms")
     return 600
 
 
@@ -309,6 +329,10 @@ def command():
         check(run("to-record", data=sample.read_bytes()).stdout == record.read_bytes(), "by standard input and output")
         run("to-csv", "--unit", "m3", record, table)
         check(run("to-record", "--unit=m3", table).stdout == record.read_bytes(), "the sample by way of cubic metres")
+        check(run("normalize", record).stdout == record.read_bytes(), "the sample in its one form")
+        parts = bytes.fromhex("01 00000000 03 03 02 05000000 04 0100 09 04000000")
+        check(run("normalize", data=parts).stdout == bytes.fromhex("01 00000000 04 0200 02 05000000 03 09 04000000"), "a gap in parts")
+        fails(run("normalize", table), f"{table}: this is text and no record", "a table has no form")
 
         bad = run("to-record", data=b"2024-01-01,5\n2024-01-02,x\n")
         check((bad.returncode, bad.stdout) == (1, b""), "an error writes nothing and exits with 1")
@@ -330,7 +354,7 @@ def command():
         check(run("to-litres").returncode == 2, "an unknown word")
     empty = run("to-csv", data=EMPTY)
     check(empty.stdout == b"date,litres_a_second\n", "a record of no day")
-    return 14
+    return 17
 
 
 def texts():
@@ -354,7 +378,7 @@ def options():
         made = run(*line, data=data)
         check(made.stdout == wanted, f"{line}: {made.stderr.decode()}")
     for option, value in (("--missing", "-999,NA"), ("--columns", "1,2"), ("--delimiter", ";")):
-        fails(run("to-csv", option, value, data=EMPTY), f"{option} has a meaning for to-record only", option, 2)
+        fails(run("to-csv", option, value, data=EMPTY), f"{option} has no meaning for to-csv", option, 2)
         fails(run("to-record", option), f"{option} wants a value", f"{option} without a value", 2)
         fails(run("to-record", option, value, option, value), f"{option} is given twice", f"{option} twice", 2)
     for value in ("date", "a,b,c", "a,", ",b", "0,1", "a,a", "2,2", ""):
@@ -364,8 +388,9 @@ def options():
         check(done.returncode == 2 and b"--delimiter is one character, or tab" in done.stderr, f"delimiter {value!r}")
     for words, message in ((["to-record", "--unit", "cfs"], "--unit is l or m3, and not 'cfs'"),
                            (["to-record", "--un", "m3"], "there is no option --un"),
-                           (["to-csv", "-x"], "there is no option -x"), ([], "to-record or to-csv is wanted"),
-                           (["to-litres"], "to-record or to-csv is wanted, and not to-litres"),
+                           (["to-csv", "-x"], "there is no option -x"), ([], "to-record, to-csv or normalize is wanted"),
+                           (["normalize", "--unit", "l"], "--unit has no meaning for normalize"),
+                           (["to-litres"], "to-record, to-csv or normalize is wanted, and not to-litres"),
                            (["to-csv", "a", "b", "c"], "two files are wanted at most, and 'c' is one more")):
         fails(run(*words, data=b""), f"tools/record: {message}", words, 2)
     fails(run("to-csv", "--", "-x"), "cannot read -x: No such file", "a name that begins with a dash")
@@ -373,7 +398,7 @@ def options():
     check((shown.returncode, shown.stdout.decode()) == (0, tool.__doc__), "--help")
     for option in ("--unit l|m3", "--columns DATE,FLOW", "--delimiter C", "--missing WORDS", "--help"):
         check(f"\n  {option}  " in tool.__doc__ or f"\n  -h, {option}  " in tool.__doc__, f"the help has no {option}")
-    return 34
+    return 35
 
 
 def few_bytes():

@@ -11,6 +11,8 @@
 
 uint32_t NAME(read)(const uint8_t *bytes, size_t bytes_len, uint32_t *days, size_t days_len, uint32_t *first_day,
                     uint32_t *day_count);
+uint32_t NAME(write)(uint32_t first_day, const uint32_t *days, size_t days_len, uint8_t *bytes, size_t bytes_len,
+                     uint32_t *record_len);
 uint32_t NAME(filter)(uint32_t method, uint32_t p, uint32_t q, int32_t s, uint32_t passes, const uint32_t *days,
                       size_t days_len, uint64_t *base, size_t base_len);
 uint32_t NAME(filter_from)(uint32_t method, uint32_t p, uint32_t q, int32_t s, uint32_t passes, uint64_t start,

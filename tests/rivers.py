@@ -137,6 +137,14 @@ def read_call(data, days):
     return first, len(stated)
 
 
+def write_call(first, days, output):
+    data = rules.write(first, views(days), len(output))
+    if isinstance(data, Refusal):
+        return data
+    output[:len(data)] = data
+    return (len(data),)
+
+
 # ---- the rivers
 
 def river(count, seed, gaps):
@@ -233,6 +241,20 @@ def show_ratios(limb_days, days, base, limbs):
 def show_read(data, days):
     result = read_call(data, days)
     out.append(words('read', len(data)) + answer(result, 'stated') + words(', days', check_sum(days)))
+
+
+def show_write(first, days, output):
+    result = write_call(first, days, output)
+    out.append(words('write', first, len(days)) + answer(result, 'written') + words(', bytes', check_sum(output)))
+    return 0 if isinstance(result, Refusal) else result[0]
+
+
+def there_and_back(first, days, room, again):
+    output = bytearray([7] * room)
+    length = show_write(first, days, output)
+    show_read(bytes(output[:length]), again)
+    assert again[:len(days)] == days
+    return output[:length]
 
 
 def show_steps(method, p, q, s, days):
@@ -356,6 +378,7 @@ def thirty_years(seed, gaps):
         show_ratios(limb_days, days, base, [0] * 8192)
     for spell in ((10_956, 60, 9800), (5000, 3650, 9500), (29, 30, 9999)):
         show_bfimax(*spell, days, base)
+    there_and_back(0, days, 10 + 5 * len(days), [7] * len(days))
     in_bits(days, [(7, 9700, 300, -9999, 1)], (5, 9000, 3), (5000, 3650, 9500))
 
 
@@ -374,6 +397,7 @@ def full_record():
     show_ratios(2, days, base, [0] * 8192)
     show_staggered(2, 9000, 3, days, base, [0] * (2 * 36525))
     show_bfimax(36_524, 3650, 9780, days, base)
+    there_and_back(99_999, days, 10 + 5 * len(days), [7] * len(days))
     in_bits(days, [], (2, 9000, 3), (36_524, 3650, 9780))
 
 
@@ -387,6 +411,11 @@ def refusals():
     for data in (head + [9, 0, 0, 0, 0], [1, 0, 0], [5], [2, 1, 0, 0, 0], [1, 160, 134, 1, 0], head + [4, 174, 142],
                  head + [3, 3, 3], head + [9, 1, 0, 0, 0], head + [9, 0, 0, 0, 0, 0]):
         show_read(bytes(data), days)
+    output = [7] * 14
+    for first, days in ((100_000, [10_000_001] * 36526), (100_000, [10_000_001]), (99_999, [10_000_001]),
+                        (99_999, [10_000_000])):
+        show_write(first, days, output)
+    show_write(0, [], [7] * 9)
     days, base, limbs = [100, 200], [7, 7], [7, 7]
     for setting in ((8, 9250, 0, 0, 1), (2, 3333, 0, 0, 1), (4, 9250, 500, 1, 1), (7, 9250, 500, -10_000, 1),
                     (2, 9250, 0, 0, 2), (2, 3334, 0, 0, 1)):
@@ -447,7 +476,7 @@ def refusals():
         show_float(kind, *floats(value))
     bits_refusals()
     seen = {line.split(': refused ')[1].split(',')[0] for line in out if ': refused ' in line}
-    assert seen == {str(n) for n in range(1, 30)}, seen
+    assert seen == {str(n) for n in range(1, 31)}, seen
 
 
 def bits_refusals():
@@ -515,6 +544,21 @@ def bits_values():
     form, base = ([0, 100, 0, 0], [14]), [7] * 4
     show_bits_bfimax(3, 2, 9500, *form, base)
     show_bits_bfimax(3, 3, 9500, *form, base)
+
+
+def records():
+    again = [7] * 4
+    for first, days, room, body in ((0, [], 12, ''), (7, [5, MISSING, 7], 21, '02 05000000 03 02 07000000'),
+                                    (0, [MISSING], 11, '03'), (0, [MISSING] * 2, 13, '04 0200'),
+                                    (0, [MISSING, 5, MISSING, MISSING], 20, '03 02 05000000 04 0200')):
+        data = there_and_back(first, days, room, again)
+        assert data[5:-5] == bytes.fromhex(body), (days, data)
+    assert show_write(99_999, [MISSING] * 36525, [7] * 14) == 13
+    assert show_write(99_999, [10_000_000] * 36525, [7] * 182635) == 182635
+    days = [7] * 7
+    show_read(bytes.fromhex('01 03000000 03 03 04 0100 04 0300 02 05000000 09 07000000'), days)
+    data = there_and_back(3, days, 18, [7] * 8)
+    assert data == bytes.fromhex('01 03000000 04 0600 02 05000000 09 07000000'), data
 
 
 STARTS = (  # days, start, and the values after one, two and three passes
@@ -595,6 +639,7 @@ def main():
         thirty_years(seed, gaps)
     full_record()
     refusals()
+    records()
     starts()
     half_lives()
     readings()

@@ -70,6 +70,18 @@ def record(first, days):
     return b"".join(parts)
 
 
+def write(first, days, room):
+    """The record of days, which may hold a number above the limit, if there is room for it."""
+    if len(days) > MOST_DAYS:
+        return Refusal(9)
+    if first > LAST_FIRST_DAY:
+        return Refusal(4)
+    if any(day is not None and day > MOST_FLOW for day in days):
+        return Refusal(10)
+    data = record(first, days)
+    return data if len(data) <= room else Refusal(30)
+
+
 # "Filters": 3.1 to 3.7, and a start that is given
 def stretches(days):
     """The first place and the flows of each longest list of neighbouring present days."""

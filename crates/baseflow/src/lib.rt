@@ -10,6 +10,7 @@ mod over_bits;
 ghost use Rattle.std.specs.Prelude.{◌≡◌, length};
 ghost use Rattle.series.specs.Causes.{refusal_of, first_cause};
 ghost use Rattle.record.specs.Call.{reading, reply_of, read_leaves};
+ghost use Rattle.record.specs.Writing.{write_outcome, write_leaves};
 ghost use Rattle.filter.specs.declared.start.Start.TheVariants.{Usual, Given};
 ghost use Rattle.filter.specs.Call.{filter_causes, filter_leaves, step_rule};
 ghost use Rattle.minima.specs.Call.{line_causes, line_leaves};
@@ -57,6 +58,21 @@ pub fn baseflow_read(
         Ok(stated) => {
             *first_day = stated.first_day;
             *day_count = stated.day_count;
+            0
+        }
+        Err(refusal) => refusal.number(),
+    }
+}
+
+// Writes the record of a first day and a day list.
+pub fn baseflow_write(first_day: u32, days: &[u32], bytes: &mut [u8], record_len: &mut u32) -> u32
+    ensures value { result ≡ returned (write_outcome first_day days.now bytes.old) }
+    ensures bytes_after { bytes.new ≡ write_leaves first_day days.now bytes.old }
+    ensures record_len_after { record_len.new ≡ handed_out (λ n. n) (write_outcome first_day days.now bytes.old) record_len.old }
+{
+    match record::write(first_day, days, bytes) {
+        Ok(length) => {
+            *record_len = length;
             0
         }
         Err(refusal) => refusal.number(),

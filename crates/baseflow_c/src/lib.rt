@@ -8,6 +8,7 @@ mod over_bits;
 ghost use Rattle.std.specs.Prelude.{◌≡◌, length};
 ghost use Rattle.series.specs.Causes.{first_cause};
 ghost use Rattle.record.specs.Call.{reading, reply_of, read_leaves};
+ghost use Rattle.record.specs.Writing.{write_outcome, write_leaves};
 ghost use Rattle.filter.specs.declared.start.Start.TheVariants.{Usual, Given};
 ghost use Rattle.filter.specs.Call.{filter_causes, filter_leaves, step_rule};
 ghost use Rattle.minima.specs.Call.{line_causes, line_leaves};
@@ -33,6 +34,21 @@ pub extern "C" fn baseflow_read(
     ensures day_count_after { day_count.new ≡ handed_out (λ s. s.day_count) (reply_of (reading (length days.old) bytes.now)) day_count.old }
 {
     baseflow::baseflow_read(bytes, days, first_day, day_count)
+}
+
+// Writes the record of a first day and a day list.
+#[unsafe(no_mangle)]
+pub extern "C" fn baseflow_write(
+    first_day: u32,
+    days: &[u32],
+    bytes: &mut [u8],
+    record_len: &mut u32,
+) -> u32
+    ensures value { result ≡ returned (write_outcome first_day days.now bytes.old) }
+    ensures bytes_after { bytes.new ≡ write_leaves first_day days.now bytes.old }
+    ensures record_len_after { record_len.new ≡ handed_out (λ n. n) (write_outcome first_day days.now bytes.old) record_len.old }
+{
+    baseflow::baseflow_write(first_day, days, bytes, record_len)
 }
 
 // Base flow of a day list by a filter, after 1 to 3 passes.

@@ -1,19 +1,20 @@
 -- An entry that has no cause, and what is accepted by such an entry.
 -- Assumes nothing.
 use Prim.Native.Nat.{ℕ, ◌+◌, ◌≤◌}
-use mathlib.Core.Path.{◌≡◌, refl}
-use mathlib.Core.Bool.{Bool, true, false, cond, true≢false}
+use mathlib.Core.Path.{◌≡◌, refl, ap}
+use mathlib.Core.Bool.{Bool, true, false, cond, not, ◌&&◌, true≢false}
 use mathlib.Core.List.{List, [], ◌++◌}
 use mathlib.Core.Option.{Option, none, some}
 use native.Mathlib.Omega.{arith}
-use borrow.Author.Tests.{ltb-false, eqb-true, not-false}
+use borrow.Author.Tests.{ltb-false, le-ltb, eqb-true, eq-eqb, not-false}
+use lib.Dec.{ltb, eqb}
 use lib.ListN.{length}
 use Rattle.series.specs.Units.{day_limit}
 use Rattle.series.specs.Causes.{first_cause, Outcome, accepted, refused, map_outcome}
 use Rattle.series.proofs.Refusing.{passed as every, never_both}
 use Rattle.record.specs.declared.entry.Kind.{Kind}
 use Rattle.record.specs.declared.entry.Kind.TheVariants.{Head, Flow, MissingDay, MissingDays, End}
-use Rattle.record.specs.Entries.{Entry, is_unknown, is_end, misplaced, body_length, out_of_range, value, stated_days, entry_causes}
+use Rattle.record.specs.Entries.{Entry, is_unknown, is_end, misplaced, body_length, out_of_range, days_of, value, stated_days, entry_causes}
 use Rattle.record.specs.Call.{entry_then}
 
 -- what may come first is a head
@@ -41,6 +42,21 @@ unfolding entry_causes
 passed first n room e h =
     let p = every (entry_causes first n room e) h in
     record { known = p 2; placed = p 3; complete = ltb-false _ _ (p 1); in_range = p 4; total = ltb-false _ _ (p 5); fits = ltb-false _ _ (p 6); counted = λ k. eqb-true _ _ (not-false _ (rw k at (p 7))); none_behind = λ k. omega (arith, ltb-false 0 (length e.behind) (rw k at (p 8))) }
+
+-- and back: where all that holds, no cause does
+not_both : (b c : Bool) → (b ≡ true → c ≡ false) → (b && c) ≡ false
+not_both true c h = h refl
+not_both false c h = refl
+
+pub no_cause : (first : Bool) (n room : ℕ) (e : Entry) → Passed first n room e → first_cause (entry_causes first n room e) ≡ none
+unfolding entry_causes
+no_cause first n room e p =
+    let short = le-ltb (length e.body) (body_length e.kind) p.complete in
+    let total = le-ltb day_limit (n + length (days_of e.kind (value e))) p.total in
+    let fits = le-ltb room (n + length (days_of e.kind (value e))) p.fits in
+    let counted = not_both (is_end e.kind) (not (eqb (value e) n)) (λ k. ap not (eq-eqb (value e) n (p.counted k))) in
+    let last = not_both (is_end e.kind) (ltb 0 (length e.behind)) (λ k. le-ltb 0 (length e.behind) (omega (arith, p.none_behind k))) in
+    simp (p.known, p.placed, short, p.in_range, total, fits, counted, last)
 
 -- What is accepted begins with an entry that has no cause: an end entry, or one whose days come first.
 pub data AcceptedEntry (first : Bool) (n room : ℕ) (e : Entry) (further : ℕ → Outcome (List ℕ)) (ds : List ℕ) : Type 0 where

@@ -1,14 +1,20 @@
--- Worked records: one list of records with what each comes to, and one result over it, computed from the definitions.
+-- Worked records: one list of records with what each comes to, and one result over it, computed from the definitions; and
+-- likewise days with the record that is written of them.
 -- Bytes are hexadecimal, as in document 01.
 -- Assumes nothing.
 use Prim.Native.Nat.{ℕ}
-use mathlib.Core.Path.{◌≡◌, refl}
+use mathlib.Core.Path.{◌≡◌, refl, ap₂}
 use mathlib.Core.List.{List, [], ◌∷◌, ◌++◌, map}
 use mathlib.Core.Option.{none, some}
 use lib.ListN.{replicate}
-use Rattle.series.specs.Units.{number, missing_mark, day_of, within}
-use Rattle.series.specs.Causes.{Outcome, accepted, refused}
+use Rattle.std.proofs.lemmas.List.{length-replicate}
+use Rattle.record.specs.declared.entry.Kind.TheVariants.{Head, End}
+use Rattle.record.proofs.Sentences.{gap_then_end}
+use Rattle.series.specs.Units.{number, missing_mark, is_flow, is_missing, is_invalid_day, day_of, within}
+use Rattle.series.specs.Causes.{Outcome, accepted, refused, leaves}
 use Rattle.record.specs.Entries.{kind_of, entry_causes}
+use Rattle.series.specs.Lists.{too_long, any_invalid_day}
+use Rattle.record.specs.Writing.{bytes_of, entry_bytes, gap_entry, entries, written as record_of, write_causes, write_outcome, write_leaves}
 use Rattle.record.specs.Call.{Stated, view_of, entry_then, days_from, first_day_of, reading, read_leaves}
 
 -- bytes, read into a list of `room` days, and what they come to
@@ -112,3 +118,53 @@ left_alone = refl
 viewed : view_of (record { first_day = 0; days = 100 ∷ 200 ∷ missing_mark ∷ 50 ∷ [] }) ≡ some 100 ∷ some 200 ∷ none ∷ some 50 ∷ []
 unfolding view_of day_of
 viewed = refl
+
+-- a first day, days and an output of so many bytes, and what is answered
+record Writing : Type 0 where
+  first_day : ℕ
+  days : List ℕ
+  room : ℕ
+  outcome : Outcome ℕ
+
+abbrev writing : ℕ → List ℕ → ℕ → Outcome ℕ → Writing
+writing first_day days room outcome = record { first_day = first_day; days = days; room = room; outcome = outcome }
+
+-- outputs that are just long enough, each refusal, and of two neighbouring causes the earlier: 9 and 4, 4 and 10, 10 and 30
+abbrev writings : List Writing
+writings =
+    writing 0 (100 ∷ 200 ∷ missing_mark ∷ 50 ∷ []) 26 (accepted 26)
+    ∷ writing 99999 [] 10 (accepted 10)
+    ∷ writing 0 (replicate 300 missing_mark) 13 (accepted 13)
+    ∷ writing 100000 (replicate 36526 missing_mark) 13 (refused 9)
+    ∷ writing 100000 (10000001 ∷ []) 15 (refused 4)
+    ∷ writing 99999 (10000001 ∷ []) 14 (refused 10)
+    ∷ writing 99999 (10000000 ∷ []) 14 (refused 30)
+    ∷ []
+
+weighed : map (λ x. write_outcome x.first_day x.days (replicate x.room 7)) writings ≡ map (λ x. x.outcome) writings
+unfolding write_causes record_of entries gap_entry bytes_of too_long any_invalid_day is_invalid_day is_flow is_missing within
+weighed = refl
+
+-- document 01's record of four days; gaps of two, one and 300 days, first, between flows and last; a longer output, whose rest
+-- stays; and one that is too short
+made : record_of 0 (100 ∷ 200 ∷ missing_mark ∷ 50 ∷ []) ≡ four_days
+unfolding record_of entries gap_entry bytes_of is_missing
+made = refl
+
+gaps_made : record_of 513 (missing_mark ∷ missing_mark ∷ 100 ∷ missing_mark ∷ 100 ∷ replicate 300 missing_mark)
+    ≡ 0x01 ∷ 0x01 ∷ 0x02 ∷ 0x00 ∷ 0x00 ∷ 0x04 ∷ 0x02 ∷ 0x00 ∷ flow ++ 0x03 ∷ flow ++ 0x04 ∷ 0x2C ∷ 0x01 ∷ 0x09 ∷ 0x31 ∷ 0x01 ∷ 0x00 ∷ 0x00 ∷ []
+unfolding record_of entries gap_entry bytes_of is_missing
+gaps_made = refl
+
+-- as many missing days as a list may have
+full_gap : record_of 0 (replicate 36525 missing_mark) ≡ head ++ 0x04 ∷ 0xAD ∷ 0x8E ∷ 0x09 ∷ 0xAD ∷ 0x8E ∷ 0x00 ∷ 0x00 ∷ []
+unfolding record_of gap_entry bytes_of
+full_gap = ap₂ (λ gap n. entry_bytes Head 0 ++ gap ++ entry_bytes End n) (gap_then_end 36525) (length-replicate 36525 missing_mark)
+
+rest_left : write_leaves 0 [] (replicate 12 7) ≡ head ++ end 0 ++ 7 ∷ 7 ∷ []
+unfolding write_causes leaves record_of entries gap_entry bytes_of too_long any_invalid_day within
+rest_left = refl
+
+output_left : write_leaves 0 [] (replicate 9 7) ≡ replicate 9 7
+unfolding write_causes leaves record_of entries gap_entry bytes_of too_long any_invalid_day within
+output_left = refl

@@ -1,4 +1,5 @@
 mod Sentences
+pub mod WrittenRecords
 pub mod Accepting
 mod Examples
 mod EntryOutcomes
@@ -7,3 +8,6 @@ mod Fronts
 mod Walk
 mod WritingWalk
 mod Reading
+mod Putting
+mod EntriesRead
+mod Wider

@@ -37,7 +37,7 @@ filled days from count day {c} h fits p =
     rw (p, k, n, drop-drop count from days, length-replicate count day, append_assoc)
 
 -- days stored behind those that stand in the list
-stored_next : (front more list : List ℕ) {n c : ℕ} → length front ≡ n → c ≡ length more → stored (front ++ drop n list) n more ≡ front ++ more ++ drop (n + c) list
+pub stored_next : (front more list : List ℕ) {n c : ℕ} → length front ≡ n → c ≡ length more → stored (front ++ drop n list) n more ≡ front ++ more ++ drop (n + c) list
 stored_next front more list {n} {c} h m =
     rw (take_at front (drop n list) n h, ← m, ← h, drop-append-add front (drop (length front) list) c, drop-drop c (length front) list)
 

@@ -1,3 +1,4 @@
 pub mod Entries
 pub mod Call
+pub mod Writing
 pub mod Private

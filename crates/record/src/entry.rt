@@ -6,27 +6,38 @@ ghost use Rattle.std.proofs.Math.Option.{some, none};
 ghost use Rattle.series.specs.declared.Refusal.TheVariants.{UnknownKind};
 ghost use Rattle.record.specs.Entries.{kind_of, body_length, out_of_range, days_of};
 ghost use Rattle.record.specs.Private.{OfKind, NextEntry};
+ghost use Rattle.record.specs.Writing.{byte_of};
 
 use series::{FLOW_LIMIT, Refusal};
 
 // The largest first day, as days since 1 January 1900.
-const FIRST_DAY_LIMIT: u32 = 99_999;
+pub(crate) const FIRST_DAY_LIMIT: u32 = 99_999;
 // The most missing days of one entry.
 const GAP_LIMIT: u32 = 65_535;
 
-// The kinds of entry, in document 01's order.
+// The kinds of entry, in document 01's order, each with its byte.
 #[derive(Clone, Copy, Debug, PartialEq, Eq)]
 pub(crate) enum Kind {
     // 01: the first day
-    Head,
+    Head = 0x01,
     // 02: one day's flow
-    Flow,
+    Flow = 0x02,
     // 03: one missing day
-    MissingDay,
+    MissingDay = 0x03,
     // 04: a number of missing days
-    MissingDays,
+    MissingDays = 0x04,
     // 09: the number of days
-    End,
+    End = 0x09,
+}
+
+impl Kind {
+    // The byte that names it.
+    // Kept: `as`, which reads the byte that the enum gives each kind.
+    pub(crate) fn byte(self) -> u8
+        ensures { result ≡ byte_of self }
+    {
+        self as u8
+    }
 }
 
 // The kind that a byte names.

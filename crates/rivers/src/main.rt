@@ -8,6 +8,7 @@ mod over_bits;
 mod published;
 mod reading_of;
 mod record_of;
+mod records;
 mod refusals;
 mod river;
 mod show;
@@ -144,7 +145,7 @@ fn record_in_bits(rt: &impl Print, days: &[u32], base: &mut [u64]) -> io::Result
 }
 
 // Thirty years of days through every method and number of passes, filters from a start, the daily step, the line, the
-// staggered lines, the ratios and BFImax; then as flows and words.
+// staggered lines, the ratios and BFImax; then as a record, and as flows and words.
 fn thirty_years(rt: &impl Print, seed: u32, gaps: Gaps) -> io::Result<()> {
     let mut days = [0u32; 10957];
     let mut base = [0u64; 10957];
@@ -164,10 +165,11 @@ fn thirty_years(rt: &impl Print, seed: u32, gaps: Gaps) -> io::Result<()> {
     all_staggered(&mut river)?;
     limbs_at_base(&mut river)?;
     spells(&mut river)?;
+    records::of_years(rt, &days)?;
     years_in_bits(rt, &days, &mut base)
 }
 
-// A full record, of 36,525 days, written and read back into the same list.
+// A full record, of 36,525 days, made here and read back into the same list; then written by the engine.
 fn full_record(rt: &impl Print, alloc: Global) -> io::Result<()> {
     let mut days = [0u32; 36525];
     let mut base = [0u64; 36525];
@@ -185,6 +187,7 @@ fn full_record(rt: &impl Print, alloc: Global) -> io::Result<()> {
     limbs(&river, &[2])?;
     two_staggered(&mut river)?;
     river.bfimax(36_524, 3650, 9780)?;
+    records::of_full_list(rt, &days)?;
     record_in_bits(rt, &days, &mut base)
 }
 
@@ -261,6 +264,7 @@ fn main(rt: HostRuntime) -> io::Result<()> {
     full_record(&rt, rt.alloc())?;
     refusals::of_entries(&rt)?;
     refusals::of_day_counts(&rt)?;
+    refusals::of_records(&rt)?;
     refusals::of_settings(&rt)?;
     refusals::of_lists(&rt)?;
     refusals::of_starts(&rt)?;
@@ -271,6 +275,8 @@ fn main(rt: HostRuntime) -> io::Result<()> {
     refusals::of_meters(&rt)?;
     refusals::of_floats(&rt)?;
     bits_refused(&rt)?;
+    records::worked(&rt)?;
+    records::read_and_written(&rt)?;
     starts::at_ends(&rt)?;
     starts::with_gaps(&rt)?;
     starts::over_bits(&rt)?;

@@ -1,6 +1,6 @@
 // Every refusal of document 01's table at least once.
-use crate::calls;
 use crate::calls::{River, plain, signed};
+use crate::{calls, records};
 use filter::{DailyFilter, Yesterday};
 use std::io;
 
@@ -24,6 +24,17 @@ pub fn of_day_counts(rt: &impl Print) -> io::Result<()> {
     read(rt, &[1, 0, 0, 0, 0, 3, 3, 3])?;
     read(rt, &[1, 0, 0, 0, 0, 9, 1, 0, 0, 0])?;
     read(rt, &[1, 0, 0, 0, 0, 9, 0, 0, 0, 0, 0])
+}
+
+// 9, 4, 10, each where the ones behind it and 30 hold too, and 30, a byte short and without a day.
+pub fn of_records(rt: &impl Print) -> io::Result<()> {
+    let mut bytes = [7u8; 14];
+    records::write(rt, 100_000, &[10_000_001; 36526], &mut bytes)?;
+    records::write(rt, 100_000, &[10_000_001], &mut bytes)?;
+    records::write(rt, 99_999, &[10_000_001], &mut bytes)?;
+    records::write(rt, 99_999, &[10_000_000], &mut bytes)?;
+    records::write(rt, 0, &[], &mut [7; 9])?;
+    Ok(())
 }
 
 // 11, 12, 13, 16, 18, and method 2's least p, which passes.

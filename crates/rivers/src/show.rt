@@ -14,7 +14,7 @@ pub fn mixed(sum: u64, n: u64) -> u64
     ((sum % MODULUS) * 31 + n % MODULUS + 1) % MODULUS
 }
 
-// The check sum of a list of flows, or of base values.
+// The check sum of a list of flows, of base values or of bytes.
 fn check_sum<T: Copy + Into<u64>>(list: &[T]) -> u64 {
     let mut sum = 0;
     for n in list {
@@ -35,6 +35,11 @@ pub fn base_list(rt: &impl Print, base: &[u64]) -> io::Result<()> {
 // The end of a line with a list of days or of limbs: its check sum.
 pub fn list(rt: &impl Print, name: &str, list: &[u32]) -> io::Result<()> {
     println!(rt; ", {name} {}", check_sum(list))
+}
+
+// The end of a line with an output of bytes: its check sum.
+pub fn bytes(rt: &impl Print, bytes: &[u8]) -> io::Result<()> {
+    println!(rt; ", bytes {}", check_sum(bytes))
 }
 
 // The check sum of words, within a line.

@@ -31,12 +31,6 @@ pub gap_of_all : (days : List ℕ) (t : ℕ) → leading_gap (map day_of days) �
 unfolding leading_gap
 gap_of_all days t e h l = e ∙ ap (λ x. t + leading_gap (map day_of x)) (drop_of_length-le days h) ∙ omega arith
 
-pub gap_inside : {A : Type 0} (days : List (Option A)) → leading_gap days ≤ length days
-unfolding leading_gap
-gap_inside [] = omega arith
-gap_inside (none ∷ ds) = omega (arith, gap_inside ds)
-gap_inside (some y ∷ ds) = omega arith
-
 -- the day behind the missing ones is the first that is present, if there is one
 pub first_at : (n : ℕ) (days : List ℕ) → n ≡ leading_gap (map day_of days) → n < length days → first_present (map day_of days) ≡ some (get_or days n 0)
 unfolding first_present leading_gap

@@ -80,6 +80,8 @@ pub enum Refusal {
     InvalidPresence = 28,
     // 29: a start that is given lies above 1000 × the first present flow
     StartTooHigh = 29,
+    // 30: an output list that is shorter than the record
+    RecordTooLong = 30,
 }
 
 impl Refusal {
