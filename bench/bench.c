@@ -19,14 +19,14 @@ static const uint32_t sizes[SIZES] = {1000, 10000, MOST};
 enum input { FLOWS, GAPS, MIXED, LATE, SUMMERS, LENGTHS, TWOS };
 enum call {
     READ, FILTER, STEP, LINE, TOTALS, RECESSION, BFIMAX, STAGGERED, HALF_LIFE, METER, TO_BITS, FROM_BITS, FILTER_BITS,
-    TOTALS_BITS, RECESSION_BITS, FILTER_FROM, WRITE
+    TOTALS_BITS, RECESSION_BITS, FILTER_FROM, WRITE, LICENCE
 };
 
 static const struct job {
     const char *name;
     enum call call;
     enum input input;
-    uint32_t first, p, q; // method, p and q; or N, g and choice; or L, N and g; or D and p
+    uint32_t first, p, q; // method, p and q; or N, g and choice; or L, N and g; or D and p; or M and Q for each day
     int32_t s;
     uint32_t passes;
 } jobs[] = {
@@ -71,6 +71,8 @@ static const struct job {
     {"filter from start, method 1", FILTER_FROM, GAPS, 1, 9250, 0, 0, 1},
     {"write, few gaps", WRITE, GAPS, 0, 0, 0, 0, 0},
     {"write, many gaps", WRITE, MIXED, 0, 0, 0, 0, 0},
+    {"licence, few gaps", LICENCE, GAPS, 500, 300, 0, 0, 0},
+    {"licence, many gaps", LICENCE, MIXED, 500, 245, 0, 0, 0},
 };
 enum { JOBS = sizeof jobs / sizeof *jobs };
 
@@ -86,7 +88,7 @@ static uint32_t count;
 static struct result {
     uint32_t answer, small[3];
     uint64_t large[3];
-    uint32_t days[MOST], limbs[MOST];
+    uint32_t days[MOST], limbs[MOST], takings[MOST];
     uint64_t base[MOST], work[30 * MOST];
     uint32_t flows[MOST];
     uint64_t words[(MOST + 63) / 64];
@@ -154,7 +156,7 @@ static void lay_readings(uint32_t size)
 }
 
 // Base flow that a call reads: for ratios that of the line with N and g, or with N 0 the flow of every day; for totals
-// that of a filter.
+// and a licence that of a filter.
 static void give_base(const struct job *job)
 {
     uint32_t refusal = 0;
@@ -274,6 +276,10 @@ static uintptr_t stack_before;
         case RECESSION:                                                                                                \
             (r)->answer = prefix##recession((job)->first, days, count, given_base, count, (r)->limbs, count,           \
                                             &(r)->small[0], &(r)->small[1]);                                           \
+            break;                                                                                                     \
+        case LICENCE:                                                                                                  \
+            (r)->answer = prefix##licence((job)->first, (uint64_t)(job)->p * count, days, count, given_base, count,    \
+                                          (r)->takings, count, &(r)->large[0]);                                        \
             break;                                                                                                     \
         case TO_BITS:                                                                                                  \
             (r)->answer = prefix##to_bits(days, count, (r)->flows, count, (r)->words, WORDS, &(r)->small[0]);          \

@@ -3,8 +3,9 @@
  *
  * Base flow is the part of a river's flow that groundwater feeds. From a record of daily flows the engine reads the
  * days, or a flow meter's readings, separates base flow by a recursive filter or by the smoothed-minima line, totals it,
- * finds recession ratios and half-lives, and estimates BFImax from the river itself. Link with target/staticlib/libbaseflow.a, which `tools/archive`
- * makes (x86-64).
+ * finds recession ratios and half-lives, estimates BFImax from the river itself, and replays a river against the licence
+ * of a pump. Link with target/staticlib/libbaseflow.a, which `tools/archive` makes (x86-64-v2:
+ * x86-64 with SSE4.2 and POPCNT).
  *
  * Units
  *   flow        litres a second, whole, 0 to 10,000,000
@@ -34,7 +35,7 @@
  *   - No state is kept between calls and no global data is written: calls are re-entrant, and may run at the same time
  *     on different buffers.
  *   - No allocation, no input or output, no exit, no panic. Of the C library only memmove and memset are needed. No
- *     floating point, but vector registers may be used, as by any code for x86-64.
+ *     floating point, but vector registers are used.
  *   - Every call ends, after a time that grows linearly with the lengths that it is given.
  *   - Stack, as bench/run measures it: baseflow_recession keeps three arrays of counters and needs 127 KiB; a call over
  *     presence bits lays out its days and needs 6 KiB more than its sister for up to 1,461 days, 43 KiB for up to 10,958,
@@ -59,6 +60,8 @@ extern "C" {
 #define BASEFLOW_MOST_DAYS 36525u      /* days in a record and in a day list */
 #define BASEFLOW_MOST_FIRST_DAY 99999u /* days since 1 January 1900, which is day 0 */
 #define BASEFLOW_MOST_DURATION 3650u   /* days that BFImax is taken from; at least 2 */
+#define BASEFLOW_MOST_DAILY_LIMIT 10000000u         /* of a licence: litres a second on a day */
+#define BASEFLOW_MOST_QUOTA UINT64_C(1000000000000) /* of a licence: litres a second, summed over days */
 
 /* kinds of a record's entries; numbers in a record are unsigned, low byte first */
 #define BASEFLOW_HEAD 0x01         /* 4 bytes: first day, 0 to 99,999 */
@@ -113,7 +116,8 @@ enum baseflow_answer {
     BASEFLOW_READING_TOO_LARGE = 27, /* a reading of more than 10,000,000 litres a second */
     BASEFLOW_BAD_PRESENCE = 28,    /* presence words that are too many or too few, a one past the last day, or a flow under a zero */
     BASEFLOW_START_TOO_HIGH = 29,  /* a start that is given lies above 1000 * the first present flow */
-    BASEFLOW_OUTPUT_SHORT = 30     /* an output list that is shorter than the record */
+    BASEFLOW_OUTPUT_SHORT = 30,    /* an output list that is shorter than the record */
+    BASEFLOW_BAD_LICENCE = 31      /* a daily limit above 10,000,000, or a quota above 10^12 */
 };
 
 /*
@@ -271,6 +275,19 @@ uint32_t baseflow_half_life(uint32_t p, uint32_t *days);
  * The distance that a filter keeps from the exact run is counted from this day, and not from the float.
  */
 uint32_t baseflow_meter(const uint8_t *bytes, size_t bytes_len, uint32_t *day);
+
+/*
+ * Replays a river against the licence of a pump: on each day with a base value the pump takes the smallest of the daily
+ * limit, of the flow less the base in whole litres (the base rounded up to a whole one), and of the quota that is left; on
+ * every other day it takes 0. Limit, takings and quota are in litres a second, the quota summed over days.
+ *
+ * Refuses: 31, 9, 14 (base list or takings list not as long as the day list), 10, 20.
+ * On 0: takings are written in full, and *quota_left is the quota less all of them. On no day is flow less taking below
+ * base. To go on with more days later, hand *quota_left over as their quota.
+ */
+uint32_t baseflow_licence(uint32_t daily_limit, uint64_t quota, const uint32_t *days, size_t days_len,
+                          const uint64_t *base, size_t base_len, uint32_t *takings, size_t takings_len,
+                          uint64_t *quota_left);
 
 /* ---- Days as flows and presence bits
  *

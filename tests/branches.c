@@ -378,6 +378,77 @@
     X(METER_NO_FRACTION, "meter", "accepted, litres with no place for a fraction")                                     \
     X(METER_LITRES_MOST, "meter", "accepted, 10,000,000 litres")                                                       \
     X(METER_CUBIC_MOST, "meter", "accepted, 10,000 cubic metres")                                                      \
+    X(LICENCE_31_LIMIT_NEXT, "licence", "refused 31, M 10,000,001")                                                    \
+    X(LICENCE_31_LIMIT_MOST, "licence", "refused 31, M 2^32 - 1")                                                      \
+    X(LICENCE_31_QUOTA_NEXT, "licence", "refused 31, Q 10^12 + 1")                                                     \
+    X(LICENCE_31_QUOTA_MOST, "licence", "refused 31, Q 2^64 - 1")                                                      \
+    X(LICENCE_31_BOTH, "licence", "refused 31, for M and for Q")                                                       \
+    X(LICENCE_31_DAYS, "licence", "refused 31, where 9 holds too")                                                     \
+    X(LICENCE_31_BASE, "licence", "refused 31, where 14 holds too, for the base list")                                 \
+    X(LICENCE_31_TAKINGS, "licence", "refused 31, where 14 holds too, for the takings")                                \
+    X(LICENCE_31_DAY, "licence", "refused 31, where 10 holds too")                                                     \
+    X(LICENCE_31_VALUE, "licence", "refused 31, where 20 holds too")                                                   \
+    X(LICENCE_9_NEXT, "licence", "refused 9, 36,526 days")                                                             \
+    X(LICENCE_9_ALONE, "licence", "refused 9 alone")                                                                   \
+    X(LICENCE_9_BASE, "licence", "refused 9, where 14 holds too, for the base list")                                   \
+    X(LICENCE_9_TAKINGS, "licence", "refused 9, where 14 holds too, for the takings")                                  \
+    X(LICENCE_9_DAY, "licence", "refused 9, where 10 holds too")                                                       \
+    X(LICENCE_9_VALUE, "licence", "refused 9, where 20 holds too")                                                     \
+    X(LICENCE_14_BASE_SHORT, "licence", "refused 14, base short alone")                                                \
+    X(LICENCE_14_BASE_LONG, "licence", "refused 14, base long alone")                                                  \
+    X(LICENCE_14_SHORT, "licence", "refused 14, takings short alone")                                                  \
+    X(LICENCE_14_LONG, "licence", "refused 14, takings long alone")                                                    \
+    X(LICENCE_14_SHORT_NEXT, "licence", "refused 14, takings short by one alone")                                      \
+    X(LICENCE_14_LONG_NEXT, "licence", "refused 14, takings long by one alone")                                        \
+    X(LICENCE_14_EMPTY, "licence", "refused 14, takings empty, base as the days")                                      \
+    X(LICENCE_14_NO_DAY, "licence", "refused 14, takings for no day")                                                  \
+    X(LICENCE_14_ALIKE, "licence", "refused 14, base and takings of the same length")                                  \
+    X(LICENCE_14_BASE_DAY, "licence", "refused 14, base alone, where 10 holds too")                                    \
+    X(LICENCE_14_BASE_VALUE, "licence", "refused 14, base alone, where 20 holds too")                                  \
+    X(LICENCE_14_TAKINGS_DAY, "licence", "refused 14, takings alone, where 10 holds too")                              \
+    X(LICENCE_14_TAKINGS_VALUE, "licence", "refused 14, takings alone, where 20 holds too")                            \
+    X(LICENCE_10_NEXT, "licence", "refused 10, flow 10,000,001")                                                       \
+    X(LICENCE_10_MARK, "licence", "refused 10, one below the mark")                                                    \
+    X(LICENCE_10_LAST, "licence", "refused 10, the last day alone")                                                    \
+    X(LICENCE_10_VALUE, "licence", "refused 10, where 20 holds too")                                                   \
+    X(LICENCE_20_MISSING, "licence", "refused 20, on a missing day")                                                   \
+    X(LICENCE_20_ABOVE, "licence", "refused 20, above the flow")                                                       \
+    X(LICENCE_20_NEXT, "licence", "refused 20, 1000 x flow + 1")                                                       \
+    X(LICENCE_20_LAST, "licence", "refused 20, the last day alone")                                                    \
+    X(LICENCE_20_SPENT, "licence", "refused 20, behind the day on which Q runs out")                                   \
+    X(LICENCE_20_NOTHING, "licence", "refused 20, though M or Q is 0")                                                 \
+    X(LICENCE_NO_DAY, "licence", "accepted, no day")                                                                   \
+    X(LICENCE_MOST_DAYS, "licence", "accepted, 36,525 days")                                                           \
+    X(LICENCE_LIMIT_0, "licence", "accepted, M 0")                                                                     \
+    X(LICENCE_LIMIT_MOST, "licence", "accepted, M 10,000,000")                                                         \
+    X(LICENCE_QUOTA_0, "licence", "accepted, Q 0")                                                                     \
+    X(LICENCE_QUOTA_MOST, "licence", "accepted, Q 10^12")                                                              \
+    X(LICENCE_ALL_MISSING, "licence", "accepted, all missing")                                                         \
+    X(LICENCE_ALL_NONE, "licence", "accepted, no value on a present day")                                              \
+    X(LICENCE_ALL_TAKEN, "licence", "accepted, no litre of Q left")                                                    \
+    X(LICENCE_ONE_LEFT, "licence", "accepted, one litre of Q left")                                                    \
+    X(LICENCE_MUCH_LEFT, "licence", "accepted, over 2^32 litres of Q left")                                            \
+    X(LICENCE_MUCH_TAKEN, "licence", "accepted, over 2^32 litres taken")                                               \
+    X(LICENCE_BY_LIMIT, "licence", "accepted, M the smallest")                                                         \
+    X(LICENCE_BY_SPARE, "licence", "accepted, flow less base the smallest")                                            \
+    X(LICENCE_BY_QUOTA, "licence", "accepted, Q runs out within a day's amount")                                       \
+    X(LICENCE_LIMIT_SPARE, "licence", "accepted, M equal to flow less base")                                           \
+    X(LICENCE_LIMIT_QUOTA, "licence", "accepted, Q runs out on M")                                                     \
+    X(LICENCE_SPARE_QUOTA, "licence", "accepted, Q runs out on flow less base")                                        \
+    X(LICENCE_ALL_EQUAL, "licence", "accepted, Q runs out on M equal to flow less base")                               \
+    X(LICENCE_LITRE, "licence", "accepted, Q runs out on a day of one litre")                                          \
+    X(LICENCE_MOST, "licence", "accepted, 10,000,000 litres on a day")                                                 \
+    X(LICENCE_SPENT, "licence", "accepted, a day with flow above base, Q spent")                                       \
+    X(LICENCE_GAP, "licence", "accepted, Q runs out behind a missing day")                                             \
+    X(LICENCE_MISSING, "licence", "accepted, a missing day")                                                           \
+    X(LICENCE_NONE, "licence", "accepted, a present day without a value")                                              \
+    X(LICENCE_AT_FLOW, "licence", "accepted, base equal to the flow")                                                  \
+    X(LICENCE_DRY, "licence", "accepted, a dry day with a value")                                                      \
+    X(LICENCE_NO_BASE, "licence", "accepted, base 0")                                                                  \
+    X(LICENCE_WHOLE, "licence", "accepted, base of whole litres")                                                      \
+    X(LICENCE_ABOVE_WHOLE, "licence", "accepted, base a thousandth above whole litres")                                \
+    X(LICENCE_BELOW_WHOLE, "licence", "accepted, base a thousandth below whole litres")                                \
+    X(LICENCE_LAST_LITRE, "licence", "accepted, base within the last litre of the flow")                               \
     X(RECESSION_18_LOW, "recession", "refused 18, L low")                                                              \
     X(RECESSION_18_HIGH, "recession", "refused 18, L high")                                                            \
     X(RECESSION_9, "recession", "refused 9")                                                                           \
@@ -1340,6 +1411,170 @@ static void count_meter(const struct test_case *c, uint32_t answer, uint32_t day
     }
 }
 
+// ---- licence
+
+static int holds_20(const struct test_case *c)
+{
+    return bad_value(c) < (c->base_len < c->days_len ? c->base_len : c->days_len);
+}
+
+// What holds besides a cause that is tested before it: 14 for either list, 10, 20, in the order of their rows.
+static void count_behind(const struct test_case *c, enum branch base)
+{
+    hit_if(c->base_len != c->days_len, base);
+    hit_if(c->takings_len != c->days_len, behind(base, 1));
+    hit_if(first_bad(c) < c->days_len, behind(base, 2));
+    hit_if(holds_20(c), behind(base, 3));
+}
+
+static void count_31(const struct test_case *c)
+{
+    int for_limit = c->daily_limit > MOST_LIMIT, for_quota = c->quota > MOST_QUOTA;
+    hit_if(for_limit && for_quota, LICENCE_31_BOTH);
+    hit_if(c->daily_limit == MOST_LIMIT + 1 && !for_quota, LICENCE_31_LIMIT_NEXT);
+    hit_if(c->daily_limit == UINT32_MAX && !for_quota, LICENCE_31_LIMIT_MOST);
+    hit_if(c->quota == MOST_QUOTA + 1 && !for_limit, LICENCE_31_QUOTA_NEXT);
+    hit_if(c->quota == UINT64_MAX && !for_limit, LICENCE_31_QUOTA_MOST);
+    hit_if(c->days_len > MOST_DAYS, LICENCE_31_DAYS);
+    count_behind(c, LICENCE_31_BASE);
+}
+
+static void count_lengths(const struct test_case *c)
+{
+    int base = c->base_len != c->days_len, takings = c->takings_len != c->days_len;
+    if (base && takings) {
+        hit_if(c->base_len == c->takings_len, LICENCE_14_ALIKE);
+        return;
+    }
+    if (base)
+        hit(c->base_len < c->days_len ? LICENCE_14_BASE_SHORT : LICENCE_14_BASE_LONG);
+    else
+        hit(c->takings_len < c->days_len ? LICENCE_14_SHORT : LICENCE_14_LONG);
+    hit_if(c->takings_len + 1 == c->days_len, LICENCE_14_SHORT_NEXT);
+    hit_if(c->takings_len == c->days_len + 1, LICENCE_14_LONG_NEXT);
+    hit_if(takings && c->takings_len == 0, LICENCE_14_EMPTY);
+    hit_if(takings && c->days_len == 0, LICENCE_14_NO_DAY);
+    hit_if(first_bad(c) < c->days_len, base ? LICENCE_14_BASE_DAY : LICENCE_14_TAKINGS_DAY);
+    hit_if(holds_20(c), base ? LICENCE_14_BASE_VALUE : LICENCE_14_TAKINGS_VALUE);
+}
+
+// Whether the quota is not 0 at first, and is so before day t.
+static int is_spent(const struct test_case *c, size_t t)
+{
+    uint64_t sum = 0;
+    while (t-- > 0)
+        sum += to_spare(c, t) < c->daily_limit ? to_spare(c, t) : c->daily_limit;
+    return 0 < c->quota && c->quota <= sum;
+}
+
+// A row of an accepted replay that a day shows, as a bit, counted from the first of those rows.
+static uint64_t shown_if(int holds, enum branch row)
+{
+    return (uint64_t)(holds != 0) << (row - LICENCE_BY_LIMIT);
+}
+
+static void hit_shown(uint64_t shown)
+{
+    for (uint32_t i = 0; behind(LICENCE_BY_LIMIT, i) <= LICENCE_LAST_LITRE; i++)
+        hit_if(shown >> i & 1, behind(LICENCE_BY_LIMIT, i));
+}
+
+// Which of M, the flow less base, and the quota that is left is the smallest, on a day that has something to spare.
+static uint64_t shown_by_amount(const struct test_case *c, size_t t, uint64_t left)
+{
+    uint64_t limit = c->daily_limit, spare = to_spare(c, t);
+    if (limit == 0 || spare == 0)
+        return 0;
+    if (left == 0)
+        return shown_if(1, LICENCE_SPENT);
+    return shown_if(limit < spare && limit < left, LICENCE_BY_LIMIT) |
+           shown_if(spare < limit && spare < left, LICENCE_BY_SPARE) |
+           shown_if(left < limit && left < spare, LICENCE_BY_QUOTA) |
+           shown_if(limit == spare && limit < left, LICENCE_LIMIT_SPARE) |
+           shown_if(limit == left && limit < spare, LICENCE_LIMIT_QUOTA) |
+           shown_if(spare == left && spare < limit, LICENCE_SPARE_QUOTA) |
+           shown_if(limit == spare && spare == left, LICENCE_ALL_EQUAL) |
+           shown_if(left == 1, LICENCE_LITRE) |
+           shown_if(limit == MOST_LIMIT && spare == limit && limit <= left, LICENCE_MOST) |
+           shown_if(left < c->quota && left <= limit && left <= spare && c->days[t - 1] == MISSING, LICENCE_GAP);
+}
+
+// What the base value of a day is, where M and the quota that is left would allow for a litre.
+static uint64_t shown_by_value(const struct test_case *c, size_t t)
+{
+    uint64_t whole = c->days[t] == MISSING ? 0 : 1000 * (uint64_t)c->days[t], value = c->base[t];
+    if (value == NO_VALUE)
+        return shown_if(1, c->days[t] == MISSING ? LICENCE_MISSING : LICENCE_NONE);
+    if (whole == 0)
+        return shown_if(1, LICENCE_DRY);
+    return shown_if(value == whole, LICENCE_AT_FLOW) | shown_if(value == 0, LICENCE_NO_BASE) |
+           shown_if(0 < value && value < whole && value % 1000 == 0, LICENCE_WHOLE) |
+           shown_if(value + 1000 < whole && value % 1000 == 1, LICENCE_ABOVE_WHOLE) |
+           shown_if(value + 1000 < whole && value % 1000 == 999, LICENCE_BELOW_WHOLE) |
+           shown_if(value < whole && whole - value < 1000, LICENCE_LAST_LITRE);
+}
+
+static void count_replayed(const struct test_case *c, uint64_t quota_left, const uint32_t *takings)
+{
+    uint64_t shown = 0, left = c->quota;
+    size_t missing = 0, values = 0;
+    for (size_t t = 0; t < c->days_len; t++) {
+        shown |= shown_by_amount(c, t, left) | (c->daily_limit > 0 && left > 0 ? shown_by_value(c, t) : 0);
+        left -= takings[t];
+        missing += c->days[t] == MISSING;
+        values += c->base[t] != NO_VALUE;
+    }
+    hit_shown(shown);
+    hit_if(c->days_len == 0, LICENCE_NO_DAY);
+    hit_if(c->days_len == MOST_DAYS, LICENCE_MOST_DAYS);
+    hit_if(c->daily_limit == 0, LICENCE_LIMIT_0);
+    hit_if(c->daily_limit == MOST_LIMIT, LICENCE_LIMIT_MOST);
+    hit_if(c->quota == 0, LICENCE_QUOTA_0);
+    hit_if(c->quota == MOST_QUOTA, LICENCE_QUOTA_MOST);
+    hit_if(c->days_len > 0 && missing == c->days_len, LICENCE_ALL_MISSING);
+    hit_if(missing < c->days_len && values == 0, LICENCE_ALL_NONE);
+    hit_if(c->quota > 0 && quota_left == 0, LICENCE_ALL_TAKEN);
+    hit_if(c->quota > 1 && quota_left == 1, LICENCE_ONE_LEFT);
+    hit_if(quota_left > UINT32_MAX, LICENCE_MUCH_LEFT);
+    hit_if(c->quota - quota_left > UINT32_MAX, LICENCE_MUCH_TAKEN);
+}
+
+static void count_licence(const struct test_case *c, uint32_t answer, const struct outs *outs, const uint32_t *takings)
+{
+    size_t t = 0;
+    switch (answer) {
+    case 31:
+        count_31(c);
+        break;
+    case 9:
+        hit_if(c->days_len == MOST_DAYS + 1, LICENCE_9_NEXT);
+        hit_if(c->base_len == c->days_len && c->takings_len == c->days_len && first_bad(c) == c->days_len && !holds_20(c),
+               LICENCE_9_ALONE);
+        count_behind(c, LICENCE_9_BASE);
+        break;
+    case 14:
+        count_lengths(c);
+        break;
+    case 10:
+        t = first_bad(c);
+        hit_if(c->days[t] == MOST_FLOW + 1, LICENCE_10_NEXT);
+        hit_if(c->days[t] == MISSING - 1, LICENCE_10_MARK);
+        hit_if(t > 0 && t + 1 == c->days_len, LICENCE_10_LAST);
+        hit_if(holds_20(c), LICENCE_10_VALUE);
+        break;
+    case 20:
+        t = bad_value(c);
+        hit(c->days[t] == MISSING ? LICENCE_20_MISSING : LICENCE_20_ABOVE);
+        hit_if(c->days[t] != MISSING && c->base[t] == 1000 * (uint64_t)c->days[t] + 1, LICENCE_20_NEXT);
+        hit_if(t > 0 && t + 1 == c->days_len, LICENCE_20_LAST);
+        hit_if(is_spent(c, t), LICENCE_20_SPENT);
+        hit_if(c->daily_limit == 0 || c->quota == 0, LICENCE_20_NOTHING);
+        break;
+    default:
+        count_replayed(c, outs->large[0], takings);
+    }
+}
+
 // ---- staggered lines
 
 // How many lines have a value on day t, and whether two of them differ there.
@@ -1927,7 +2162,7 @@ static void count_over_bits(const struct test_case *c, uint32_t answer)
 }
 
 void count_branch(const struct test_case *c, uint32_t answer, const struct outs *outs, const uint32_t *days,
-                  const uint64_t *base, const uint64_t *work)
+                  const uint64_t *base, const uint64_t *work, const uint32_t *takings)
 {
     switch (c->call) {
     case READ:
@@ -1960,6 +2195,9 @@ void count_branch(const struct test_case *c, uint32_t answer, const struct outs 
         break;
     case METER:
         count_meter(c, answer, outs->small[0]);
+        break;
+    case LICENCE:
+        count_licence(c, answer, outs, takings);
         break;
     case STAGGERED:
         count_staggered(c, answer, work);

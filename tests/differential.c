@@ -9,7 +9,8 @@
 // Each list ends where readable memory ends, so that a call that reads or writes behind it is stopped, and has guard
 // bytes before it. Lists that a call has no business to write, and everything after a refusal, are held to what they
 // were before the call. What the engine writes as a record, it has to read as the days that it wrote; the days of a
-// record that it reads, it has to write, and to read again.
+// record that it reads, it has to write, and to read again. What it takes by a licence and the quota left have to make up
+// the quota, and to leave every day its base flow.
 #define _GNU_SOURCE
 #include <inttypes.h>
 #include <setjmp.h>
@@ -24,17 +25,18 @@
 #include "differential.h"
 #include "reference.h"
 
-enum list { BYTES, DAYS, BASE, LIMBS, WORK, FLOWS, WORDS, LISTS };
+enum list { BYTES, DAYS, BASE, LIMBS, WORK, FLOWS, WORDS, TAKINGS, LISTS };
 enum { GUARD = 64, GUARD_BYTE = 0x5a };
 
 static const char *const call_names[CALLS] = {
     "read", "write", "filter", "filter_from", "step", "steps", "line", "totals", "recession", "bfimax", "staggered",
-    "half_life", "meter", "to_bits", "from_bits", "filter_bits", "line_bits", "totals_bits", "recession_bits",
-    "bfimax_bits", "staggered_bits", "filter_from_bits",
+    "half_life", "meter", "licence", "to_bits", "from_bits", "filter_bits", "line_bits", "totals_bits",
+    "recession_bits", "bfimax_bits", "staggered_bits", "filter_from_bits",
 };
-static const char *const list_names[LISTS] = {"bytes", "days", "base", "limbs", "work", "flows", "words"};
-static const size_t widths[LISTS] = {1, 4, 8, 4, 8, 4, 8};
-static const size_t rooms[LISTS] = {ROOM_BYTES, ROOM_DAYS, ROOM_DAYS, ROOM_DAYS, ROOM_WORK, ROOM_DAYS, ROOM_WORDS};
+static const char *const list_names[LISTS] = {"bytes", "days", "base", "limbs", "work", "flows", "words", "takings"};
+static const size_t widths[LISTS] = {1, 4, 8, 4, 8, 4, 8, 4};
+static const size_t rooms[LISTS] = {ROOM_BYTES, ROOM_DAYS, ROOM_DAYS,  ROOM_DAYS,
+                                    ROOM_WORK,  ROOM_DAYS, ROOM_WORDS, ROOM_DAYS};
 
 struct side {
     const char *name;
@@ -47,14 +49,14 @@ struct side {
 
 static size_t *length_of(struct test_case *c, enum list list)
 {
-    return (size_t *[]){&c->bytes_len, &c->days_len,  &c->base_len, &c->limbs_len,
-                        &c->work_len,  &c->flows_len, &c->words_len}[list];
+    return (size_t *[]){&c->bytes_len, &c->days_len,  &c->base_len,  &c->limbs_len,
+                        &c->work_len,  &c->flows_len, &c->words_len, &c->takings_len}[list];
 }
 
 static size_t length(const struct test_case *c, enum list list)
 {
-    return (const size_t[]){c->bytes_len, c->days_len,  c->base_len, c->limbs_len,
-                            c->work_len,  c->flows_len, c->words_len}[list];
+    return (const size_t[]){c->bytes_len, c->days_len,  c->base_len,  c->limbs_len,
+                            c->work_len,  c->flows_len, c->words_len, c->takings_len}[list];
 }
 
 static size_t size(const struct test_case *c, enum list list)
@@ -64,14 +66,14 @@ static size_t size(const struct test_case *c, enum list list)
 
 static const void *content(const struct test_case *c, enum list list)
 {
-    return (const void *[]){c->bytes, c->days, c->base, c->limbs, c->work, c->flows, c->words}[list];
+    return (const void *[]){c->bytes, c->days, c->base, c->limbs, c->work, c->flows, c->words, c->takings}[list];
 }
 
 static int may_write(enum call of, enum list list)
 {
     enum call call = sister_of(of);
     return (call == WRITE && list == BYTES) || ((call == READ || call == FROM_BITS) && list == DAYS) ||
-           (call == RECESSION && list == LIMBS) ||
+           (call == RECESSION && list == LIMBS) || (call == LICENCE && list == TAKINGS) ||
            ((call == FILTER || call == FILTER_FROM || call == LINE || call == BFIMAX || call == STAGGERED) &&
             list == BASE) ||
            (call == STAGGERED && list == WORK) || (call == TO_BITS && (list == FLOWS || list == WORDS));
@@ -107,6 +109,9 @@ static int may_write(enum call of, enum list list)
             return prefix##half_life(c->p, &small[0]);                                                                 \
         case METER:                                                                                                    \
             return prefix##meter(lists[BYTES], c->bytes_len, &small[0]);                                               \
+        case LICENCE:                                                                                                  \
+            return prefix##licence(c->daily_limit, c->quota, lists[DAYS], c->days_len, lists[BASE], c->base_len,       \
+                                   lists[TAKINGS], c->takings_len, &large[0]);                                         \
         case TO_BITS:                                                                                                  \
             return prefix##to_bits(lists[DAYS], c->days_len, BITS, &small[0]);                                         \
         case FROM_BITS:                                                                                                \
@@ -274,6 +279,23 @@ static const char *compare_written(const struct test_case *c)
     return read_again(c->first_day, c->days, c->days_len, bytes, length);
 }
 
+// An accepted replay takes no more than the licence grants, leaves each day its base flow, and answers the rest of Q.
+static const char *compare_replayed(const struct test_case *c)
+{
+    const uint32_t *takings = engine.lists[TAKINGS];
+    uint64_t taken = 0;
+    for (size_t t = 0; t < c->days_len; t++) {
+        if (takings[t] > c->daily_limit)
+            return "more than the daily limit is taken";
+        if (c->base[t] == NO_VALUE && takings[t] != 0)
+            return "something is taken on a day without a base value";
+        if (c->base[t] != NO_VALUE && 1000 * (uint64_t)takings[t] + c->base[t] > 1000 * (uint64_t)c->days[t])
+            return "a day's flow after taking is below its base flow";
+        taken += takings[t];
+    }
+    return taken + engine.outs.large[0] == c->quota ? NULL : "takings and quota left do not make up the quota";
+}
+
 // How the two sides differ on a case; NULL where they agree.
 static const char *difference(const struct test_case *c)
 {
@@ -298,6 +320,8 @@ static const char *difference(const struct test_case *c)
             return "a list differs";
     if (engine.answer == 0 && c->call == WRITE)
         return compare_written(c);
+    if (engine.answer == 0 && c->call == LICENCE)
+        return compare_replayed(c);
     if (engine.answer == 0 && c->call == READ)
         return read_again(engine.outs.small[0], engine.lists[DAYS], engine.outs.small[1], NULL, 0);
     return NULL;
@@ -319,6 +343,7 @@ static void copy(struct test_case *to, const struct test_case *from)
     memcpy(to->work, from->work, size(from, WORK));
     memcpy(to->flows, from->flows, size(from, FLOWS));
     memcpy(to->words, from->words, size(from, WORDS));
+    memcpy(to->takings, from->takings, size(from, TAKINGS));
 }
 
 // Keeps the attempt if it still fails.
@@ -365,7 +390,7 @@ static void cut_room(struct test_case *c, size_t record_before)
 
 static void cut(struct test_case *c, enum list list, size_t at, size_t count)
 {
-    uint8_t *from = (void *[]){c->bytes, c->days, c->base, c->limbs, c->work, c->flows, c->words}[list];
+    uint8_t *from = (void *[]){c->bytes, c->days, c->base, c->limbs, c->work, c->flows, c->words, c->takings}[list];
     size_t width = widths[list], before = length(c, list), behind = before - at - count;
     size_t record_before = c->call == WRITE ? record_length(c->days, c->days_len) : 0;
     memmove(from + at * width, from + (at + count) * width, behind * width);
@@ -380,6 +405,7 @@ static void cut(struct test_case *c, enum list list, size_t at, size_t count)
         c->last_day -= (uint32_t)count; // the same day, at its new place
     size_t of_lines = sister_of(c->call) == STAGGERED && c->block_days <= 30 ? c->block_days * count : 0;
     c->work_len -= of_lines < c->work_len ? of_lines : c->work_len; // as far from N x days as it was
+    c->takings_len -= count < c->takings_len ? count : c->takings_len;
 }
 
 // Cuts pieces of a list, and of another with it (LISTS for none).
@@ -406,11 +432,12 @@ static uint32_t *days_of(struct test_case *c)
     return given(c->call) == FLOWS ? c->flows : c->days;
 }
 
-// For the ratios, a base value goes down with the flow of its day, as far as it can.
+// For the ratios and a licence, a base value goes down with the flow of its day, as far as it can.
 static void lower_value(size_t t)
 {
     uint64_t by = 1000 * (uint64_t)(days_of(&smallest)[t] - days_of(&attempt)[t]);
-    if (sister_of(attempt.call) == RECESSION && t < attempt.base_len && attempt.base[t] != NO_VALUE)
+    int goes_down = sister_of(attempt.call) == RECESSION || attempt.call == LICENCE;
+    if (goes_down && t < attempt.base_len && attempt.base[t] != NO_VALUE)
         attempt.base[t] -= attempt.base[t] < by ? attempt.base[t] : by;
 }
 
@@ -458,18 +485,37 @@ static int lower_start(void)
     return better;
 }
 
+static int lower_licence(void)
+{
+    int better = 0;
+    const uint32_t limit = smallest.daily_limit, limits[] = {0, 1, 10, limit / 2, limit - 1};
+    const uint64_t quota = smallest.quota, quotas[] = {0, 1, 10, quota / 2, quota - 1};
+    for (size_t i = 0; i < sizeof limits / sizeof *limits && smallest.call == LICENCE; i++) {
+        copy(&attempt, &smallest);
+        attempt.daily_limit = limits[i];
+        if (limits[i] < smallest.daily_limit && keep())
+            better = 1;
+        copy(&attempt, &smallest);
+        attempt.quota = quotas[i];
+        if (quotas[i] < smallest.quota && keep())
+            better = 1;
+    }
+    return better;
+}
+
 static void shrink(const struct test_case *c)
 {
     copy(&smallest, c);
     int better = 1;
     while (better) {
         enum list list = given(c->call), other = beside(c->call);
-        better = cut_pieces(BYTES, LISTS) | cut_pieces(LIMBS, LISTS) | cut_pieces(WORDS, LISTS);
+        better = cut_pieces(BYTES, LISTS) | cut_pieces(LIMBS, LISTS) | cut_pieces(WORDS, LISTS) |
+                 cut_pieces(TAKINGS, LISTS);
         if (length(&smallest, list) == length(&smallest, other))
             better |= cut_pieces(list, other);
         else
             better |= cut_pieces(list, LISTS) | cut_pieces(other, LISTS);
-        better |= lower_days() | shorten() | lower_start();
+        better |= lower_days() | shorten() | lower_start() | lower_licence();
     }
 }
 
@@ -520,6 +566,8 @@ static void print_outs(enum call of, const struct outs *o)
         printf(" days %" PRIu32, o->small[0]);
     if (call == METER)
         printf(" day %" PRIu32, o->small[0]);
+    if (call == LICENCE)
+        printf(" quota_left %" PRIu64, o->large[0]);
     if (call == TO_BITS || call == FROM_BITS)
         printf(" present %" PRIu32, o->small[0]);
     if (call == RECESSION)
@@ -550,6 +598,8 @@ static void print_arguments(const struct test_case *c)
         printf("  limb_days %" PRIu32 "\n", c->limb_days);
     if (call == BFIMAX)
         printf("  last_day %" PRIu32 ", duration %" PRIu32 ", p %" PRIu32 "\n", c->last_day, c->duration, c->p);
+    if (call == LICENCE)
+        printf("  daily_limit %" PRIu32 ", quota %" PRIu64 "\n", c->daily_limit, c->quota);
     for (enum list list = 0; list < LISTS; list++)
         if (length(c, list) > 0)
             print_list(c, list, content(c, list));
@@ -597,7 +647,7 @@ int main(int argc, char **argv)
             return 1;
         }
         count_branch(&c, reference.answer, &reference.outs, reference.lists[DAYS], reference.lists[BASE],
-                     reference.lists[WORK]);
+                     reference.lists[WORK], reference.lists[TAKINGS]);
     }
     print_branches();
     return 0;

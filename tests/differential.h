@@ -7,13 +7,14 @@
 
 #define MISSING UINT32_MAX
 #define NO_VALUE UINT64_MAX
+#define MOST_QUOTA ((uint64_t)1000000000000)
 
-enum { MOST_FLOW = 10000000, MOST_DAYS = 36525, MOST_FIRST_DAY = 99999, MOST_DURATION = 3650 };
+enum { MOST_FLOW = 10000000, MOST_DAYS = 36525, MOST_FIRST_DAY = 99999, MOST_DURATION = 3650, MOST_LIMIT = 10000000 };
 
 // STEPS is no call of its own: daily steps from a fresh state over a day list, held to pass 1 of the filter.
 enum call {
     READ, WRITE, FILTER, FILTER_FROM, STEP, STEPS, LINE, TOTALS, RECESSION, BFIMAX, STAGGERED, HALF_LIFE, METER,
-    TO_BITS, FROM_BITS, FILTER_BITS, LINE_BITS, TOTALS_BITS, RECESSION_BITS, BFIMAX_BITS, STAGGERED_BITS,
+    LICENCE, TO_BITS, FROM_BITS, FILTER_BITS, LINE_BITS, TOTALS_BITS, RECESSION_BITS, BFIMAX_BITS, STAGGERED_BITS,
     FILTER_FROM_BITS, CALLS
 };
 
@@ -46,8 +47,10 @@ struct test_case {
     uint32_t choice;               // STAGGERED
     uint32_t limb_days;            // RECESSION
     uint32_t last_day, duration;   // BFIMAX
+    uint32_t daily_limit;          // LICENCE
+    uint64_t quota;                // LICENCE
     struct outs outs;              // STEP: has_yesterday small[0], flow small[1], base large[0]
-    size_t bytes_len, days_len, base_len, limbs_len, work_len, flows_len, words_len;
+    size_t bytes_len, days_len, base_len, limbs_len, work_len, flows_len, words_len, takings_len;
     uint8_t bytes[ROOM_BYTES];
     uint32_t days[ROOM_DAYS];
     uint64_t base[ROOM_DAYS];
@@ -55,11 +58,19 @@ struct test_case {
     uint64_t work[ROOM_WORK];
     uint32_t flows[ROOM_DAYS];
     uint64_t words[ROOM_WORDS];
+    uint32_t takings[ROOM_DAYS];
 };
 
 static inline size_t words_for(size_t days)
 {
     return (days + 63) / 64;
+}
+
+// What a day's flow has above its base flow, in whole litres; nothing where there is no base value, or 20 or 10 holds.
+static inline uint32_t to_spare(const struct test_case *c, size_t t)
+{
+    uint64_t whole = t < c->days_len && c->days[t] <= MOST_FLOW ? 1000 * (uint64_t)c->days[t] : 0;
+    return t < c->base_len && c->base[t] < whole ? (uint32_t)((whole - c->base[t]) / 1000) : 0;
 }
 
 static inline int bit_of(const struct test_case *c, size_t t)
@@ -96,7 +107,7 @@ void generate(struct test_case *c, uint64_t seed, uint64_t number);
 
 // Counts the branch that a case took, from its arguments, the agreed answer and what was written.
 void count_branch(const struct test_case *c, uint32_t answer, const struct outs *outs, const uint32_t *days,
-                  const uint64_t *base, const uint64_t *work);
+                  const uint64_t *base, const uint64_t *work, const uint32_t *takings);
 void print_branches(void);
 
 #endif

@@ -6,7 +6,8 @@
 Each record is written, read, separated, stepped through day by day and totalled by the engine (include/baseflow.h).
 The days and the setting are worked out anew with fractions: document 01's rules, near left out. It fails with a message
 where a figure lies outside its limit, a day has a value in one run only, or a refusal is not the one that the rules
-give. What is written has to be the record that the rules make of the days.
+give. What is written has to be the record that the rules make of the days. A licence is replayed over each base flow: what
+is taken and what is left make up the quota, and no day's flow comes below its base.
 BFImax has runs of its own: the limit of each of its values counts the days up to the next one behind it on which both
 runs have the whole flow. Filters from a start that is given have runs of their own, too: each within the limit of its
 filter, and for methods 1 to 6 any two of them as close to each other as their rule says; a river with more flow has no
@@ -155,6 +156,18 @@ def refused(call, *arguments):
         return refusing.number, None
 
 
+def measure_licence(engine, days, base):
+    """A daily limit of a tenth of the largest flow, and quotas of half of what it lets through, and of all."""
+    limit = max((y for y in days if y is not None), default=0) // 10
+    most = rules.MOST_QUOTA - rules.replay(limit, rules.MOST_QUOTA, days, base)[1]
+    for quota in (most // 2, most):
+        takings, left = engine.licence(limit, quota, days, base)
+        assert sum(takings) + left == quota, f"{sum(takings)} taken and {left} left of a quota of {quota}"
+        for y, b, taking in zip(days, base, takings, strict=True):
+            assert taking == 0 if b is None else 1000 * (y - taking) >= b, f"{taking} is taken of flow {y}, base {b}"
+        assert (takings, left) == rules.replay(limit, quota, days, base), f"other takings than the rule gives: {takings}"
+
+
 def measure(engine, setting, first, stated, shares):
     method, p, q, s, n = setting
     data, days = rules.record(first, stated), stated
@@ -168,6 +181,7 @@ def measure(engine, setting, first, stated, shares):
     exact, limit = exact_run(*setting, days), daily_limit(*setting)
     name = "line" if method == LINE else f"method 1, {n} pass{'es' * (n > 1)}" if method == 1 else f"method {method}"
     shares.days_within(name, days, base, exact, limit)
+    measure_licence(engine, days, base)
     if method != LINE and n == 1:
         shares.days_within("daily steps", days, engine.steps(method, p, q, s, days), exact, limit)
 
@@ -453,6 +467,9 @@ def worked_rivers(engine):
         form, present = engine.to_bits(days)
         return form.flows, form.words, present
 
+    def takings(quota):
+        return engine.licence(60, quota, [100, 200, None, 50], [50000, 57500, None, 25000])
+
     line = [None, 8000, 8333, 8667, 9000, None]
     flows = [10, 8, 10, 20, 9, 30]
     falling = [100, 90, 81, 72]
@@ -608,6 +625,25 @@ def worked_rivers(engine):
         ("written, 9, 4, 10 and 30", [refused(engine.write, first, [flow] * n, 0)[0] for first, flow, n in (
             (100_000, 10_000_001, 36526), (100_000, 10_000_001, 1), (99_999, 10_000_001, 1), (99_999, 10_000_000, 1))],
          [9, 4, 10, 30]),
+        ("licence, Q is enough", takings(150), ([50, 60, 0, 25], 15)),
+        ("licence, Q runs out within a day's amount", takings(120), ([50, 60, 0, 10], 0)),
+        ("licence, Q runs out with a day's amount", takings(110), ([50, 60, 0, 0], 0)),
+        ("licence, base beside whole litres",
+         engine.licence(10**7, 10**12, [10] * 7, [3000, 3001, 2999, 10000, 9001, 0, None]),
+         ([7, 6, 7, 0, 0, 10, 0], 10**12 - 30)),
+        ("licence, the most of a day", engine.licence(10**7, 10**12, [10**7], [0]), ([10**7], 10**12 - 10**7)),
+        ("licence, M 0 and Q 0", [engine.licence(*words, [10, 10], [0, 0]) for words in ((0, 5), (5, 0))],
+         [([0, 0], 5), ([0, 0], 0)]),
+        ("licence, no day", engine.licence(5, 5, [], []), ([], 5)),
+        ("licence, M and Q at their ends and beyond", [refused(engine.licence, *words, [], [])[0] for words in (
+            (10**7, 10**12), (10**7 + 1, 10**12), (10**7, 10**12 + 1))], [None, 31, 31]),
+        ("licence, 31, 9, 14, 14, 10 and 20", [refused(engine.licence, limit, 0, [None, *flows], base, room)[0]
+                                               for limit, flows, base, room in (
+            (10**7 + 1, [10**7 + 1] * 36525, [0], 1), (10**7, [10**7 + 1] * 36525, [0], 1),
+            (10**7, [10**7 + 1], [0], 2), (10**7, [10**7 + 1], [0, 0], 1), (10**7, [10**7 + 1], [0, 0], 2),
+            (10**7, [10**7], [0, 0], 2))], [31, 9, 14, 14, 10, 20]),
+        ("licence, 20 above the flow", [refused(engine.licence, 0, 0, [7], [base])[0] for base in (7000, 7001)],
+         [None, 20]),
         ("zero days", engine.read(bytes.fromhex("01 00000000 09 00000000")), (0, [])),
         ("no bytes", refused(engine.read, b"")[0], 1),
     ]

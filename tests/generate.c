@@ -3,7 +3,8 @@
 // everywhere, recessions as BFImax sees them, full lists, lists of different lengths, records damaged by cutting,
 // flipping and inserting, gaps of one, two and some 256 days anywhere and room for just their record, floats of every
 // exponent, at halves between two litres, and beside the limits, lists that end round a word's last bit, with damaged
-// words, and starts at both ends of their range and beyond.
+// words, starts at both ends of their range and beyond, base flow a thousandth beside whole litres, and quotas that run
+// out within a day's amount, with it, or not at all.
 #include <string.h>
 
 #include "differential.h"
@@ -839,6 +840,94 @@ static void make_meter(struct test_case *c)
         insert(c, c->bytes_len, between(1, one_in(2) ? 1 : 5));
 }
 
+// ---- licences
+
+// None, 0, all of the flow, whole litres, a thousandth more or less, a part of the flow's last litre, or any of it.
+enum { NONE, NOTHING, WHOLE_FLOW, LITRES, ABOVE_LITRES, BELOW_LITRES, LAST_LITRE, ANY_VALUE, VALUES };
+
+static uint64_t value_of(uint32_t kind, uint32_t flow)
+{
+    uint64_t whole = 1000 * (uint64_t)flow, litres = 1000 * (uint64_t)below(flow + 1);
+    switch (flow == MISSING ? NONE : kind) {
+    case NONE:
+        return NO_VALUE;
+    case NOTHING:
+        return 0;
+    case WHOLE_FLOW:
+        return whole;
+    case LITRES:
+        return litres;
+    case ABOVE_LITRES:
+        return litres + (litres < whole);
+    case BELOW_LITRES:
+        return litres - (litres > 0);
+    case LAST_LITRE:
+        return whole - (whole > 0 ? below(1000) : 0);
+    default:
+        return draw() % (whole + 1);
+    }
+}
+
+// Base flow at the edges of a litre: of one kind on all days, or of any kind on each.
+static void fill_litres(struct test_case *c)
+{
+    uint32_t same = below(2 * VALUES);
+    fill_base(c);
+    for (size_t t = 0; t < c->base_len && t < c->days_len; t++)
+        c->base[t] = value_of(same < VALUES ? same : below(VALUES), c->days[t]);
+    spoil_value(c);
+}
+
+// A daily limit at an end of its range, as large as what some day has to spare, or any.
+static void fill_limit(struct test_case *c)
+{
+    uint32_t spare = c->days_len > 0 ? to_spare(c, below((uint32_t)c->days_len)) : 0;
+    c->daily_limit = one_in(4)   ? AMONG(0, 1, MOST_LIMIT - 1, MOST_LIMIT, MOST_LIMIT)
+                     : one_in(3) ? spare
+                     : one_in(2) ? below(40)
+                                 : below(MOST_LIMIT + 1);
+    if (spoil())
+        c->daily_limit = AMONG(MOST_LIMIT + 1, MOST_LIMIT + 1, MOST_LIMIT + 2, 0x80000000, MISSING);
+}
+
+// A quota that runs out with the amount of some day, a litre before or behind that, or within the amount; one at an end
+// of its range, or any.
+static void fill_quota(struct test_case *c)
+{
+    uint64_t sum = 0, amount = 0;
+    size_t end = c->days_len == 0 || one_in(4) ? c->days_len : below((uint32_t)c->days_len) + 1;
+    for (size_t t = 0; t < end; t++) {
+        amount = to_spare(c, t) < c->daily_limit ? to_spare(c, t) : c->daily_limit;
+        sum += amount;
+    }
+    c->quota = one_in(6)              ? AMONG_OF(uint64_t, 0, 1, MOST_QUOTA - 1, MOST_QUOTA, MOST_QUOTA)
+               : one_in(6)            ? draw() % (MOST_QUOTA + 1)
+               : one_in(3)            ? sum
+               : one_in(4)            ? sum + 1
+               : sum > 0 && one_in(4) ? sum - 1
+                                      : sum - draw() % (amount + 1);
+    if (spoil())
+        c->quota = AMONG_OF(uint64_t, MOST_QUOTA + 1, MOST_QUOTA + 1, MOST_QUOTA + 2, (uint64_t)1 << 63, NO_VALUE);
+}
+
+static void make_licence(struct test_case *c)
+{
+    if (one_in(3)) {
+        make_totals(c);
+    } else {
+        fill_days(c);
+        fill_litres(c);
+    }
+    if (spoil() && one_in(20)) // 9 beside other causes
+        for (size_t count = MOST_DAYS + AMONG(1, 1, 2, 60); c->days_len < count;)
+            c->days[c->days_len++] = MISSING;
+    fill_limit(c);
+    fill_quota(c);
+    c->takings_len = spoil() ? (one_in(4) ? 0 : one_in(4) ? c->base_len : other_length(c->days_len)) : c->days_len;
+    for (size_t t = 0; t < c->takings_len; t++)
+        c->takings[t] = (uint32_t)draw();
+}
+
 // ---- presence bits
 
 static void fill_words(struct test_case *c, size_t count)
@@ -937,14 +1026,15 @@ void generate(struct test_case *c, uint64_t seed, uint64_t number)
         [READ] = make_read, [WRITE] = make_write, [FILTER] = make_filter, [FILTER_FROM] = make_filter_from,
         [STEP] = make_step, [STEPS] = make_steps, [LINE] = make_line, [TOTALS] = make_totals,
         [RECESSION] = make_recession, [BFIMAX] = make_bfimax, [STAGGERED] = make_staggered,
-        [HALF_LIFE] = make_half_life, [METER] = make_meter, [TO_BITS] = make_to_bits, [FROM_BITS] = make_from_bits,
-        [FILTER_BITS] = make_over_bits, [LINE_BITS] = make_over_bits, [TOTALS_BITS] = make_over_bits,
-        [RECESSION_BITS] = make_over_bits, [BFIMAX_BITS] = make_over_bits, [STAGGERED_BITS] = make_over_bits,
-        [FILTER_FROM_BITS] = make_over_bits,
+        [HALF_LIFE] = make_half_life, [METER] = make_meter, [LICENCE] = make_licence, [TO_BITS] = make_to_bits,
+        [FROM_BITS] = make_from_bits, [FILTER_BITS] = make_over_bits, [LINE_BITS] = make_over_bits,
+        [TOTALS_BITS] = make_over_bits, [RECESSION_BITS] = make_over_bits, [BFIMAX_BITS] = make_over_bits,
+        [STAGGERED_BITS] = make_over_bits, [FILTER_FROM_BITS] = make_over_bits,
     };
     state = seed << 40 ^ number;
     state = draw();
-    c->bytes_len = c->days_len = c->base_len = c->limbs_len = c->work_len = c->flows_len = c->words_len = 0;
+    c->bytes_len = c->days_len = c->base_len = c->limbs_len = 0;
+    c->work_len = c->flows_len = c->words_len = c->takings_len = 0;
     for (size_t i = 0; i < 4; i++) {
         c->outs.small[i] = (uint32_t)draw();
         c->outs.large[i] = draw();
@@ -960,7 +1050,8 @@ void generate(struct test_case *c, uint64_t seed, uint64_t number)
               : turn < 48 ? STEP
               : turn < 52 ? STEPS
               : turn < 60 ? LINE
-              : turn < 68 ? TOTALS
+              : turn < 65 ? TOTALS
+              : turn < 68 ? LICENCE
               : turn < 80 ? RECESSION
               : turn < 91 ? BFIMAX
               : turn < 99 ? STAGGERED

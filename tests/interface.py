@@ -163,6 +163,14 @@ class Engine:
         self.call("meter", listed(ctypes.c_uint8, data), size(data), ctypes.byref(day))
         return None if day.value == MISSING else day.value
 
+    def licence(self, daily_limit, quota, days, base, takings_len=None):
+        """The takings and the quota left, with a taking for each day, or as many as wanted."""
+        takings_len, left = len(days) if takings_len is None else takings_len, ctypes.c_uint64()
+        takings = listed(ctypes.c_uint32, [7] * takings_len)
+        self.call("licence", ctypes.c_uint32(daily_limit), ctypes.c_uint64(quota), day_list(days), size(days),
+                  base_list(base), size(base), takings, ctypes.c_size_t(takings_len), ctypes.byref(left))
+        return takings[:takings_len], left.value
+
     def bfimax(self, last_day, duration, p, days):
         """BFImax and the base list."""
         base, answer = listed(ctypes.c_uint64, [0] * len(days)), ctypes.c_uint32()

@@ -58,6 +58,14 @@ FLOAT_TEST = "if (bits >= INFINITE && bits != MINUS_ZERO) return 26;"
 READING_NEAR = "(2 * m + ((uint64_t)1 << k) - 1 + (m >> k & 1)) >> (k + 1)"
 READING_SCALED = "near_shifted(units[bytes[0]] * reading.m, 150 - reading.exponent)"
 READING_TEST = "if (litres > MOST_FLOW) return 27;"
+LICENCE_TEST = "if (daily_limit > MOST_LIMIT || quota > most_quota) return 31;"
+TAKINGS_TEST = "if (base_len != days_len || takings_len != days_len) return 14;"
+VALUES_TEST = "if (!are_values(days, base, days_len)) return 20;"
+TO_SPARE = "return base == NO_VALUE ? 0 : (1000 * (uint64_t)flow - base) / 1000;"
+AMOUNT = "smaller(daily_limit, to_spare(days[t], base[t]))"
+TAKING = f"uint64_t taking = smaller({AMOUNT}, left);"
+TAKEN = "takings[t] = (uint32_t)taking; left -= taking;"
+LEFT_WRITTEN = "*quota_left = left;"
 EIGHT = "eight |= (uint64_t)(days[j + k] != MISSING) << k;"
 TO_WORDS_TEST = "if (words_len != words_for(days_len)) return 28;"
 FROM_WORDS_TEST = "if (words_len != words_for(flows_len)) return 28;"
@@ -340,6 +348,44 @@ FAULTS = (
      "if (bytes_len < reading_len) return 1; if (reading_len == 5 && four_bytes(bytes + 1) >= INFINITE && "
      "four_bytes(bytes + 1) != MINUS_ZERO) return 26; if (bytes_len > reading_len) return 8;"),
     ("a day is written before 27", READING_TEST, f"*day = (uint32_t)litres; {READING_TEST}"),
+    ("base is rounded down", TO_SPARE, "return base == NO_VALUE ? 0 : flow - base / 1000;"),
+    ("base is rounded to the nearest litre", TO_SPARE,
+     "return base == NO_VALUE || near(base, 1000) > flow ? 0 : flow - near(base, 1000);"),
+    ("a day without a value has base 0", TO_SPARE,
+     f"if (base == NO_VALUE && flow != MISSING) return flow; {TO_SPARE}"),
+    ("a missing day's mark is taken from", TO_SPARE, f"if (flow == MISSING) return flow; {TO_SPARE}"),
+    ("a taking is not held to Q", f"{TAKING} {TAKEN}",
+     f"uint64_t taking = {AMOUNT}; takings[t] = (uint32_t)taking; left -= smaller(taking, left);"),
+    ("each day is held to Q anew", TAKING, TAKING.replace("left", "quota")),
+    ("Q is not counted down", TAKEN, "takings[t] = (uint32_t)taking;"),
+    ("Q is counted down by M", TAKEN,
+     "takings[t] = (uint32_t)taking; left -= base[t] == NO_VALUE ? 0 : smaller(daily_limit, left);"),
+    ("Q begins anew behind a gap", TAKEN, f"{TAKEN} if (days[t] == MISSING) left = quota;"),
+    ("Q left is Q less the last taking", LEFT_WRITTEN, "*quota_left = days_len > 0 ? quota - takings[days_len - 1] : quota;"),
+    ("a day without a value keeps its taking", TAKEN,
+     "if (base[t] != NO_VALUE) takings[t] = (uint32_t)taking; left -= taking;"),
+    ("a taking beyond the last day is written", LEFT_WRITTEN, f"takings[days_len] = 0; {LEFT_WRITTEN}"),
+    ("a licence takes M 10,000,001", LICENCE_TEST, LICENCE_TEST.replace("MOST_LIMIT", "MOST_LIMIT + 1")),
+    ("a licence takes Q 10^12 + 1", LICENCE_TEST, LICENCE_TEST.replace("most_quota", "most_quota + 1")),
+    ("31 after 9", f"{LICENCE_TEST} {MOST_DAYS_TEST}", f"{MOST_DAYS_TEST} {LICENCE_TEST}"),
+    ("14 before 9 in a replay", f"{MOST_DAYS_TEST} {TAKINGS_TEST}", f"{TAKINGS_TEST} {MOST_DAYS_TEST}"),
+    ("the length of the takings is not tested", TAKINGS_TEST, "if (base_len != days_len) return 14;"),
+    ("a longer list for the takings is taken", TAKINGS_TEST,
+     "if (base_len != days_len || takings_len < days_len) return 14;"),
+    ("the takings are as long as the base list", TAKINGS_TEST, "if (base_len != takings_len) return 14;"),
+    ("14 of the takings after 10", f"{TAKINGS_TEST} {DAYS_TEST}",
+     f"if (base_len != days_len) return 14; {DAYS_TEST} if (takings_len != days_len) return 14;"),
+    ("20 before 10 in a replay", f"{DAYS_TEST} {VALUES_TEST}", f"{VALUES_TEST} {DAYS_TEST}"),
+    ("20 up to the day on which Q runs out", f"{VALUES_TEST} uint64_t left = quota;",
+     "size_t end = 0; for (uint64_t rest = quota; rest > 0 && end < days_len && are_values(days + end, base + end, 1); "
+     "end++) rest -= smaller(rest, smaller(daily_limit, to_spare(days[end], base[end]))); "
+     "if (!are_values(days, base, end < days_len ? end + 1 : end)) return 20; uint64_t left = quota;"),
+    ("20 is found as the days go by", f"{VALUES_TEST} uint64_t left = quota;", "uint64_t left = quota; "
+     "for (size_t t = 0; t < days_len; t++) { if (!are_values(days + t, base + t, 1)) return 20; takings[t] = 0; }"),
+    ("Q left is written before 20", VALUES_TEST, f"*quota_left = quota; {VALUES_TEST}"),
+    ("base equal to flow is refused in a replay", "(base[t] <= 1000 * (uint64_t)days[t]));",
+     "(base[t] < 1000 * (uint64_t)days[t]));"),
+    ("a value on a missing day is taken for none", "((days[t] != MISSING) & (base[t]", "((days[t] == MISSING) | (base[t]"),
     ("the highest bit first", EIGHT, "word |= (uint64_t)(days[j + k] != MISSING) << (63 - j - k);"),
     ("the highest bit first, from bits", SET_MISSING, "days[64 * i + 63 - (size_t)__builtin_ctzll(zeros)] = MISSING;"),
     ("a dry day is absent", EIGHT, "eight |= (uint64_t)(days[j + k] != MISSING && days[j + k] != 0) << k;"),

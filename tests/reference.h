@@ -29,6 +29,9 @@ uint32_t NAME(recession)(uint32_t limb_days, const uint32_t *days, size_t days_l
                          size_t base_len, uint32_t *limbs, size_t limbs_len, uint32_t *ratio_count, uint32_t *ratio);
 uint32_t NAME(half_life)(uint32_t p, uint32_t *days);
 uint32_t NAME(meter)(const uint8_t *bytes, size_t bytes_len, uint32_t *day);
+uint32_t NAME(licence)(uint32_t daily_limit, uint64_t quota, const uint32_t *days, size_t days_len,
+                       const uint64_t *base, size_t base_len, uint32_t *takings, size_t takings_len,
+                       uint64_t *quota_left);
 uint32_t NAME(bfimax)(uint32_t last_day, uint32_t duration, uint32_t p, const uint32_t *days, size_t days_len,
                       uint64_t *base, size_t base_len, uint32_t *bfimax);
 

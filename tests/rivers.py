@@ -41,10 +41,10 @@ def bad_days(days):
     return Refusal(10) if any(rules.MOST_FLOW < d < MISSING for d in days) else None
 
 
-def bad_lists(days, base):
+def bad_lists(days, *others):
     if len(days) > rules.MOST_DAYS:
         return Refusal(9)
-    return Refusal(14) if len(days) != len(base) else bad_days(days)
+    return Refusal(14) if any(len(days) != len(other) for other in others) else bad_days(days)
 
 
 def filter_call(method, p, q, s, passes, days, base, start=None):
@@ -101,6 +101,15 @@ def ratios_call(limb_days, days, base, limbs):
     for n, (place, flows) in enumerate(counted):
         limbs[2 * n:2 * n + 2] = [place, len(flows)]
     return len(found), found[(len(found) + 1) // 2 - 1]
+
+
+def licence_call(daily_limit, quota, days, base, takings):
+    cause = rules.bad_licence(daily_limit, quota) or bad_lists(days, base, takings)
+    cause = cause or rules.bad_base(views(days), base_views(base))
+    if cause:
+        return cause
+    takings[:], left = rules.replay(daily_limit, quota, views(days), base_views(base))
+    return (left,)
 
 
 def over_bits(call, flows, words):
@@ -235,6 +244,12 @@ def show_totals(days, base):
 def show_ratios(limb_days, days, base, limbs):
     result = ratios_call(limb_days, days, base, limbs)
     out.append(words('ratios', limb_days) + answer(result, 'found') + words(', limbs', check_sum(limbs)))
+    return result
+
+
+def show_licence(daily_limit, quota, days, base, takings):
+    result = licence_call(daily_limit, quota, days, base, takings)
+    out.append(words('licence', daily_limit, quota) + answer(result, 'left') + words(', takings', check_sum(takings)))
     return result
 
 
@@ -378,8 +393,20 @@ def thirty_years(seed, gaps):
         show_ratios(limb_days, days, base, [0] * 8192)
     for spell in ((10_956, 60, 9800), (5000, 3650, 9500), (29, 30, 9999)):
         show_bfimax(*spell, days, base)
+    licensed_years(days, base)
     there_and_back(0, days, 10 + 5 * len(days), [7] * len(days))
     in_bits(days, [(7, 9700, 300, -9999, 1)], (5, 9000, 3), (5000, 3650, 9500))
+
+
+def licensed_years(days, base):
+    """Against a filter: by flow and base alone, held to M, and until Q runs out; and so against a line."""
+    takings, results = [7] * len(days), []
+    show_filter(1, 9250, 0, 0, 1, days, base)
+    for licence in ((10_000_000, 10**12), (50_000, 10**12), (50_000, 100_000_000)):
+        results += show_licence(*licence, days, base, takings)
+    show_line(5, 9000, days, base)
+    results += show_licence(50_000, 20_000_000, days, base, takings)
+    assert results[0] < results[1] < 10**12 and results[2:] == [0, 0], results
 
 
 def full_record():
@@ -397,6 +424,8 @@ def full_record():
     show_ratios(2, days, base, [0] * 8192)
     show_staggered(2, 9000, 3, days, base, [0] * (2 * 36525))
     show_bfimax(36_524, 3650, 9780, days, base)
+    show_filter(1, 9250, 0, 0, 1, days, base)
+    show_licence(50_000, 10**12, days, base, [7] * 36525)
     there_and_back(99_999, days, 10 + 5 * len(days), [7] * len(days))
     in_bits(days, [], (2, 9000, 3), (36_524, 3650, 9780))
 
@@ -464,6 +493,7 @@ def refusals():
     show_staggered(2, 9000, 1, days, [7], work)
     show_staggered(1, 9000, 1, days, base, work)
     show_staggered(2, 9000, 1, [5, 10_000_001, 6], base, work)
+    licence_refusals()
     for data in ([], [1], [2, 0, 0, 128], [0], [4, 0, 0, 128, 63], [255, 0, 0, 128, 63, 0], [3, 3],
                  [1, 0, 0, 128, 127, 0]):
         show_meter(bytes(data))
@@ -476,7 +506,19 @@ def refusals():
         show_float(kind, *floats(value))
     bits_refusals()
     seen = {line.split(': refused ')[1].split(',')[0] for line in out if ': refused ' in line}
-    assert seen == {str(n) for n in range(1, 31)}, seen
+    assert seen == {str(n) for n in range(1, 32)}, seen
+
+
+def licence_refusals():
+    days, base, takings = [MISSING, 10_000_001], [7, 7], [7, 7]
+    for licence in ((10_000_001, 10**12), (10_000_000, 10**12 + 1), (10_000_000, 10**12)):
+        show_licence(*licence, [1] * 36526, base, takings)
+    show_licence(10_000_000, 10**12, days, [7], takings)
+    show_licence(10_000_000, 10**12, days, base, [7] * 3)
+    show_licence(10_000_000, 10**12, days, base, takings)
+    days = [MISSING, 100]
+    show_licence(10_000_000, 10**12, days, base, takings)
+    show_licence(0, 0, days, [NO_VALUE, 100_001], takings)
 
 
 def bits_refusals():
@@ -544,6 +586,24 @@ def bits_values():
     form, base = ([0, 100, 0, 0], [14]), [7] * 4
     show_bits_bfimax(3, 2, 9500, *form, base)
     show_bits_bfimax(3, 3, 9500, *form, base)
+
+
+LICENCES = (  # M, Q, days, base list, and the takings and the quota left
+    (60, 150, [100, 200, MISSING, 50], [50000, 57500, NO_VALUE, 25000], [50, 60, 0, 25], 15),
+    (60, 120, [100, 200, MISSING, 50], [50000, 57500, NO_VALUE, 25000], [50, 60, 0, 10], 0),
+    (60, 110, [100, 200, MISSING, 50], [50000, 57500, NO_VALUE, 25000], [50, 60, 0, 0], 0),
+    (10_000_000, 10**12, [10] * 7, [3000, 3001, 2999, 10000, 9001, 0, NO_VALUE], [7, 6, 7, 0, 0, 10, 0], 10**12 - 30),
+    (10_000_000, 10**12, [10_000_000], [0], [10_000_000], 10**12 - 10**7),
+    (0, 5, [10, 10], [0, 0], [0, 0], 5),
+    (5, 0, [10, 10], [0, 0], [0, 0], 0),
+    (5, 5, [], [], [], 5),
+)
+
+
+def licences():
+    for daily_limit, quota, days, base, wanted, left in LICENCES:
+        takings = [7] * len(days)
+        assert show_licence(daily_limit, quota, days, base, takings) == (left,) and takings == wanted, (takings, left)
 
 
 def records():
@@ -641,6 +701,7 @@ def main():
     refusals()
     records()
     starts()
+    licences()
     half_lives()
     readings()
     metered_years()

@@ -9,6 +9,7 @@ import struct
 from fractions import Fraction
 
 MOST_DAYS, MOST_FLOW, LAST_FIRST_DAY = 36525, 10_000_000, 99_999
+MOST_LIMIT, MOST_QUOTA = 10_000_000, 10**12
 BODIES = {1: 4, 2: 4, 3: 0, 4: 2, 9: 4}
 
 
@@ -288,6 +289,21 @@ def meter(data):
     exact = unit * Fraction(value)  # python's floats have every binary32
     litres = near(exact.numerator, exact.denominator)
     return Refusal(27) if litres > MOST_FLOW else litres
+
+
+# "Licence"
+def bad_licence(daily_limit, quota):
+    return None if daily_limit <= MOST_LIMIT and quota <= MOST_QUOTA else Refusal(31)
+
+
+def replay(daily_limit, quota, days, base):
+    """The takings and the quota left of a licence, days and base values that pass their checks."""
+    takings = []
+    for y, b in zip(days, base, strict=True):
+        taking = 0 if b is None else min(daily_limit, y - math.ceil(Fraction(b, 1000)), quota)
+        takings.append(taking)
+        quota -= taking
+    return takings, quota
 
 
 # "Presence"

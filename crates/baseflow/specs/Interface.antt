@@ -10,6 +10,7 @@ use Rattle.filter.specs.declared.DailyFilter.{DailyFilter}
 use Rattle.filter.specs.Daily.{fresh, after}
 use Rattle.filter.specs.Call.{StepOutcome}
 use Rattle.minima.specs.declared.LineSetting.{LineSetting}
+use Rattle.licence.specs.declared.Licence.{Licence}
 use Rattle.baseflow.specs.declared.StateNumbers.{StateNumbers}
 
 -- what is returned: 0, or the number of the refusal
@@ -24,12 +25,15 @@ returned_cause first = by_cause first (λ n. n) 0
 abbrev pub handed_out : {A : Type 0} → (A → ℕ) → Outcome A → ℕ → ℕ
 handed_out value o entry = by_outcome o (λ _. entry) value
 
--- settings
+-- settings, and a licence
 abbrev pub setting_of : (method p q : ℕ) → (s : ℤ) → Setting
 setting_of method p q s = record { method = method; p = p; q = q; s = s }
 
 abbrev pub line_setting_of : (block_days factor : ℕ) → LineSetting
 line_setting_of block_days factor = record { block_days = block_days; factor = factor }
+
+abbrev pub licence_of : (daily_limit quota : ℕ) → Licence
+licence_of daily_limit quota = record { daily_limit = daily_limit; quota = quota }
 
 -- the daily step's state in three numbers: has_yesterday 0 is the fresh state, anything else a yesterday with flow and base
 unfoldable pub state_of : (has flow base : ℕ) → DailyFilter

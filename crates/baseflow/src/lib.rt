@@ -20,9 +20,11 @@ ghost use Rattle.bfimax.specs.Call.{spell_of, bfimax_outcome, bfimax_leaves};
 ghost use Rattle.recession.specs.Call.{ratio_outcome, ratio_leaves};
 ghost use Rattle.half_life.specs.Call.{half_life_outcome};
 ghost use Rattle.meter.specs.Call.{meter_outcome};
-ghost use Rattle.baseflow.specs.Interface.{returned, returned_cause, handed_out, setting_of, line_setting_of, state_of, state_numbers, value_out, state_out};
+ghost use Rattle.licence.specs.Call.{licence_outcome, licence_leaves};
+ghost use Rattle.baseflow.specs.Interface.{returned, returned_cause, handed_out, setting_of, line_setting_of, licence_of, state_of, state_numbers, value_out, state_out};
 
 use filter::{DailyFilter, Setting, Start, Yesterday};
+use licence::Licence;
 use minima::LineSetting;
 pub use over_bits::{
     baseflow_bfimax_bits, baseflow_filter_bits, baseflow_filter_from_bits, baseflow_from_bits,
@@ -238,6 +240,29 @@ pub fn baseflow_meter(bytes: &[u8], day: &mut u32) -> u32
     match meter::meter(bytes) {
         Ok(said) => {
             *day = said;
+            0
+        }
+        Err(refusal) => refusal.number(),
+    }
+}
+
+// What a pump takes of a river under a licence, and the quota that it leaves.
+pub fn baseflow_licence(
+    daily_limit: u32,
+    quota: u64,
+    days: &[u32],
+    base: &[u64],
+    takings: &mut [u32],
+    quota_left: &mut u64,
+) -> u32
+    ensures value { result ≡ returned (licence_outcome (licence_of daily_limit quota) days.now base.now takings.old) }
+    ensures takings_after { takings.new ≡ licence_leaves (licence_of daily_limit quota) days.now base.now takings.old }
+    ensures quota_left_after { quota_left.new ≡ handed_out (λ n. n) (licence_outcome (licence_of daily_limit quota) days.now base.now takings.old) quota_left.old }
+{
+    let licence = Licence { daily_limit, quota };
+    match licence::replay(licence, days, base, takings) {
+        Ok(left) => {
+            *quota_left = left;
             0
         }
         Err(refusal) => refusal.number(),

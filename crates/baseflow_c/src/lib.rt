@@ -18,7 +18,8 @@ ghost use Rattle.bfimax.specs.Call.{spell_of, bfimax_outcome, bfimax_leaves};
 ghost use Rattle.recession.specs.Call.{ratio_outcome, ratio_leaves};
 ghost use Rattle.half_life.specs.Call.{half_life_outcome};
 ghost use Rattle.meter.specs.Call.{meter_outcome};
-ghost use Rattle.baseflow.specs.Interface.{returned, returned_cause, handed_out, setting_of, line_setting_of, state_of, value_out, state_out};
+ghost use Rattle.licence.specs.Call.{licence_outcome, licence_leaves};
+ghost use Rattle.baseflow.specs.Interface.{returned, returned_cause, handed_out, setting_of, line_setting_of, licence_of, state_of, value_out, state_out};
 
 // Reads a record into a day list.
 #[unsafe(no_mangle)]
@@ -192,6 +193,23 @@ pub extern "C" fn baseflow_meter(bytes: &[u8], day: &mut u32) -> u32
     ensures day_after { day.new ≡ handed_out (λ n. n) (meter_outcome bytes.now) day.old }
 {
     baseflow::baseflow_meter(bytes, day)
+}
+
+// What a pump takes of a river under a licence, and the quota that it leaves.
+#[unsafe(no_mangle)]
+pub extern "C" fn baseflow_licence(
+    daily_limit: u32,
+    quota: u64,
+    days: &[u32],
+    base: &[u64],
+    takings: &mut [u32],
+    quota_left: &mut u64,
+) -> u32
+    ensures value { result ≡ returned (licence_outcome (licence_of daily_limit quota) days.now base.now takings.old) }
+    ensures takings_after { takings.new ≡ licence_leaves (licence_of daily_limit quota) days.now base.now takings.old }
+    ensures quota_left_after { quota_left.new ≡ handed_out (λ n. n) (licence_outcome (licence_of daily_limit quota) days.now base.now takings.old) quota_left.old }
+{
+    baseflow::baseflow_licence(daily_limit, quota, days, base, takings, quota_left)
 }
 
 // The base value of one day more, with the state that goes from day to day.

@@ -1,6 +1,7 @@
 // Each call over a river, with its answer and the lists that it leaves printed.
 use crate::{reading_of, show};
 use filter::{Advanced, DailyFilter, Refused, Setting, Start};
+use licence::Licence;
 use meter::Reading;
 use minima::LineSetting;
 use recession::Statistics;
@@ -194,6 +195,17 @@ impl<'a, 'b, P: Print> River<'a, 'b, P> {
             Err(refusal) => show::refusal(rt, refusal)?,
         }
         show::list(rt, "limbs", limbs)
+    }
+
+    pub fn licence(&self, daily_limit: u32, quota: u64, takings: &mut [u32]) -> io::Result<()> {
+        let rt = self.rt;
+        print!(rt; "licence {daily_limit} {quota}")?;
+        let granted = Licence { daily_limit, quota };
+        match licence::replay(granted, self.days, self.base, &mut *takings) {
+            Ok(left) => print!(rt; ": left {left}")?,
+            Err(refusal) => show::refusal(rt, refusal)?,
+        }
+        show::list(rt, "takings", takings)
     }
 
     // Steps over the river from the fresh state: the check sum of their values is that of pass 1.

@@ -4,6 +4,7 @@
 
 mod bits_refusals;
 mod calls;
+mod licences;
 mod over_bits;
 mod published;
 mod reading_of;
@@ -145,7 +146,7 @@ fn record_in_bits(rt: &impl Print, days: &[u32], base: &mut [u64]) -> io::Result
 }
 
 // Thirty years of days through every method and number of passes, filters from a start, the daily step, the line, the
-// staggered lines, the ratios and BFImax; then as a record, and as flows and words.
+// staggered lines, the ratios, BFImax and licences; then as a record, and as flows and words.
 fn thirty_years(rt: &impl Print, seed: u32, gaps: Gaps) -> io::Result<()> {
     let mut days = [0u32; 10957];
     let mut base = [0u64; 10957];
@@ -165,6 +166,7 @@ fn thirty_years(rt: &impl Print, seed: u32, gaps: Gaps) -> io::Result<()> {
     all_staggered(&mut river)?;
     limbs_at_base(&mut river)?;
     spells(&mut river)?;
+    licences::of_years(&mut river)?;
     records::of_years(rt, &days)?;
     years_in_bits(rt, &days, &mut base)
 }
@@ -187,6 +189,7 @@ fn full_record(rt: &impl Print, alloc: Global) -> io::Result<()> {
     limbs(&river, &[2])?;
     two_staggered(&mut river)?;
     river.bfimax(36_524, 3650, 9780)?;
+    licences::of_full_list(&mut river)?;
     records::of_full_list(rt, &days)?;
     record_in_bits(rt, &days, &mut base)
 }
@@ -272,6 +275,7 @@ fn main(rt: HostRuntime) -> io::Result<()> {
     refusals::of_values(&rt)?;
     refusals::of_spells(&rt)?;
     refusals::of_staggered(&rt)?;
+    refusals::of_licences(&rt)?;
     refusals::of_meters(&rt)?;
     refusals::of_floats(&rt)?;
     bits_refused(&rt)?;
@@ -280,6 +284,9 @@ fn main(rt: HostRuntime) -> io::Result<()> {
     starts::at_ends(&rt)?;
     starts::with_gaps(&rt)?;
     starts::over_bits(&rt)?;
+    licences::until_spent(&rt)?;
+    licences::by_litres(&rt)?;
+    licences::of_nothing(&rt)?;
     half_lives(&rt)?;
     readings(&rt)?;
     metered_years(&rt)?;

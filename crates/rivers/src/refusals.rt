@@ -228,6 +228,47 @@ pub fn of_staggered(rt: &impl Print) -> io::Result<()> {
     invalid.staggered(2, 9000, 1, &mut work)
 }
 
+// 31 for either number, 9, 14 for either list, 10, each where the ones behind it hold too; and 20, though there is nothing
+// to take.
+pub fn of_licences(rt: &impl Print) -> io::Result<()> {
+    let days = [series::MISSING, 10_000_001];
+    let mut base = [7u64; 2];
+    let mut takings = [7u32; 2];
+    let long = River {
+        rt,
+        days: &[1; 36526],
+        base: &mut base,
+    };
+    long.licence(10_000_001, 1_000_000_000_000, &mut takings)?;
+    long.licence(10_000_000, 1_000_000_000_001, &mut takings)?;
+    long.licence(10_000_000, 1_000_000_000_000, &mut takings)?;
+    let short = River {
+        rt,
+        days: &days,
+        base: &mut [7; 1],
+    };
+    short.licence(10_000_000, 1_000_000_000_000, &mut takings)?;
+    let invalid = River {
+        rt,
+        days: &days,
+        base: &mut base,
+    };
+    invalid.licence(10_000_000, 1_000_000_000_000, &mut [7; 3])?;
+    invalid.licence(10_000_000, 1_000_000_000_000, &mut takings)?;
+    let on_missing = River {
+        rt,
+        days: &[series::MISSING, 100],
+        base: &mut base,
+    };
+    on_missing.licence(10_000_000, 1_000_000_000_000, &mut takings)?;
+    let above_flow = River {
+        rt,
+        days: &[series::MISSING, 100],
+        base: &mut [series::NO_VALUE, 100_001],
+    };
+    above_flow.licence(0, 0, &mut takings)
+}
+
 // 1, 2, 8.
 pub fn of_meters(rt: &impl Print) -> io::Result<()> {
     calls::meter(rt, &[])?;

@@ -3,19 +3,20 @@
 -- Assumes nothing.
 use Prim.Native.Nat.{ℕ, zero, suc, ◌+◌, ◌*◌, ◌≤◌, ◌<◌}
 use mathlib.Core.Path.{◌≡◌, refl, sym, ◌∙◌, ap, ap₂}
-use mathlib.Core.Bool.{Bool, false, true≢false, ◌||◌, or_assoc, or-false}
+use mathlib.Core.Bool.{Bool, false, true≢false, not, ◌||◌, ◌&&◌, or_assoc, or-false}
 use mathlib.Core.List.{List, [], ◌∷◌, ◌++◌}
 use mathlib.Core.Logic.{◌⊎◌, inl, inr}
 use mathlib.Core.Option.{Option, none, some}
 use Rattle.std.proofs.lemmas.List.{nil_from_length}
 use native.Mathlib.Numerals.{add-one}
+use native.Mathlib.Decide.{ℕ_discrete}
 use lib.ListN.{length, get_or, drop, replicate, drop_of_length-le}
-use lib.Dec.{ltb}
+use lib.Dec.{ltb, eqb}
 use lib.Seq.{drop-cons}
-use borrow.Author.Tests.{ltb-false, le-ltb, eqb-true, eq-eqb, not-false}
-use Rattle.series.specs.Units.{day_limit, missing_mark, is_invalid_day, day_of, base_of}
+use borrow.Author.Tests.{ltb-false, le-ltb, eqb-true, eq-eqb, ne_eqb, not-false}
+use Rattle.series.specs.Units.{day_limit, missing_mark, no_value_mark, is_invalid_day, day_of, base_of}
 use Rattle.series.specs.Lists.{too_long, lengths_differ, any_invalid_day, is_invalid_base, any_invalid_base}
-use Rattle.series.proofs.Views.{valid_missing}
+use Rattle.series.proofs.Views.{valid_missing, day_missing, day_present, base_none, base_value}
 
 -- 9
 pub few_days : (days : List ℕ) → too_long days ≡ false → length days ≤ day_limit
@@ -62,6 +63,17 @@ valid_gap (suc n) = simp (valid_missing, valid_gap n)
 pub no_base : (day : Option ℕ) → is_invalid_base day none ≡ false
 unfolding is_invalid_base
 no_base day = refl
+
+pub base_tested : (d b x : ℕ) → x ≡ d → (not (eqb b no_value_mark) && (eqb d missing_mark || ltb (1000 * x) b)) ≡ is_invalid_base (day_of d) (base_of b)
+unfolding is_invalid_base
+base_tested d b x e =
+    elim (ℕ_discrete b no_value_mark) [
+      | yes m ↦ rw (base_none b m, eq-eqb b no_value_mark m) refl
+      | no m ↦ elim (ℕ_discrete d missing_mark) [
+        | yes n ↦ rw (base_value b m, day_missing d n, ne_eqb b no_value_mark m, eq-eqb d missing_mark n) refl
+        | no n ↦ rw (base_value b m, day_present d n, ne_eqb b no_value_mark m, ne_eqb d missing_mark n, e) refl
+      ]
+    ]
 
 pub none_on_missing : (b : ℕ) → is_invalid_base none (some b) ≡ false → ⊥
 unfolding is_invalid_base

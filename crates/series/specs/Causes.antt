@@ -2,7 +2,7 @@
 use Rattle.std.specs.Prelude.{ℕ, ◌≡◌, Bool, cond, List, [], ◌∷◌, Result, Ok, Err}
 use Rattle.std.proofs.Math.Option.{Option, none, some}
 use Rattle.series.specs.declared.Refusal.{Refusal}
-use Rattle.series.specs.declared.Refusal.TheVariants.{Truncated, UnknownKind, MisplacedHead, ValueOutOfRange, TooManyDays, DayListTooShort, WrongEndCount, BytesAfterEnd, DayListTooLong, InvalidDay, UnknownMethod, ParameterOutOfRange, InvalidPasses, LengthsDiffer, InvalidState, LineSettingOutOfRange, NoLine, LimbDaysOutOfRange, NoRatio, InvalidBase, NoFlow, LimbListTooShort, DurationOutOfRange, InvalidSpell, WorkListLength, InvalidReading, ReadingTooLarge, InvalidPresence, StartTooHigh, RecordTooLong}
+use Rattle.series.specs.declared.Refusal.TheVariants.{Truncated, UnknownKind, MisplacedHead, ValueOutOfRange, TooManyDays, DayListTooShort, WrongEndCount, BytesAfterEnd, DayListTooLong, InvalidDay, UnknownMethod, ParameterOutOfRange, InvalidPasses, LengthsDiffer, InvalidState, LineSettingOutOfRange, NoLine, LimbDaysOutOfRange, NoRatio, InvalidBase, NoFlow, LimbListTooShort, DurationOutOfRange, InvalidSpell, WorkListLength, InvalidReading, ReadingTooLarge, InvalidPresence, StartTooHigh, RecordTooLong, LicenceOutOfRange}
 
 -- document 01's number of each refusal
 abbrev pub refusal_number : Refusal → ℕ
@@ -36,6 +36,7 @@ refusal_number ReadingTooLarge = 27
 refusal_number InvalidPresence = 28
 refusal_number StartTooHigh = 29
 refusal_number RecordTooLong = 30
+refusal_number LicenceOutOfRange = 31
 
 -- the number of a check's or a call's refusal, or none where it accepts
 abbrev pub refusal_of : {A : Type 0} → Result A Refusal → Option ℕ

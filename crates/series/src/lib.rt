@@ -82,6 +82,8 @@ pub enum Refusal {
     StartTooHigh = 29,
     // 30: an output list that is shorter than the record
     RecordTooLong = 30,
+    // 31: a daily limit above 10,000,000, or a quota above 10^12
+    LicenceOutOfRange = 31,
 }
 
 impl Refusal {
@@ -148,17 +150,13 @@ pub fn leading_gap(days: &[u32]) -> usize
     days.len()
 }
 
-// 20, of one day: it is missing and has a base value, or has one above 1000 × its flow.
+// 20, of one day: it is missing and has a base value, or has one above 1000 × its flow. (Without a branch: a walk over the
+// days is then the faster one.)
+#[tactic(auto, using(crate::proofs::Tests::base_tested))]
 pub fn is_invalid_base(day: u32, base: u64) -> bool
     ensures { result ≡ is_invalid_base (day_of day) (base_of base) }
 {
-    if base == NO_VALUE {
-        return false;
-    }
-    if day == MISSING {
-        return true;
-    }
-    1000 * u64::from(day) < base
+    (base != NO_VALUE) & ((day == MISSING) | (1000 * u64::from(day) < base))
 }
 
 // 20: that on some day of two lists.

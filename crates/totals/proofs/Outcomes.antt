@@ -25,6 +25,10 @@ use Rattle.totals.specs.declared.tally.Tally.{Tally}
 use Rattle.totals.specs.Private.{SumsOf, totals_from}
 use Rattle.totals.proofs.Summing.{base_at_most}
 
+-- the sums of valid lists have no more base than flow
+pub sums_below : (days base : List ℕ) (t : Tally) → (any_invalid_base days base ≡ false) × SumsOf (listed_days days base) t → t.base ≤ 1000 * t.flow
+sums_below days base t s = omega (arith, base_at_most days base s.0, s.1.flow, s.1.base)
+
 -- the index is at most one
 pub index_below : (a y : ℕ) {r : ℕ} → r ≡ near a y → a ≤ 10000 * y → r ≤ 10000
 index_below a y {r} e h = by_flow (ℕ_discrete y 0)

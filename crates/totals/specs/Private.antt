@@ -1,10 +1,11 @@
 -- What the private walk adds up and finds, and what follows from it. No public promise speaks of this.
-use Rattle.std.specs.Prelude.{ℕ, ◌+◌, ◌*◌, ◌-◌, ◌≡◌, true, false, List, length, Result, Ok, Err}
+use Rattle.std.specs.Prelude.{ℕ, ◌+◌, ◌*◌, ◌-◌, ◌≡◌, ◌≤◌, true, false, List, length, Result, Ok, Err}
 use Rattle.std.proofs.Math.Option.{Option, none, some}
 use Rattle.numbers.specs.Near.{near}
 use Rattle.numbers.specs.Arithmetic.{rounded}
 use Rattle.series.specs.declared.Refusal.{Refusal}
 use Rattle.series.specs.declared.Refusal.TheVariants.{InvalidBase}
+use Rattle.series.specs.Units.{day_of, base_of}
 use Rattle.series.specs.Lists.{is_invalid_base, any_invalid_base}
 use Rattle.totals.specs.Sums.{BaseDay, flow_total, base_total}
 use Rattle.totals.specs.Call.{listed_days}
@@ -23,10 +24,10 @@ Counts t t' day none = DayMore t t' 0 0 0
 Counts t t' none (some b) = ⊥
 Counts t t' (some y) (some b) = DayMore t t' 1 y b
 
--- what one day more makes of sums; it is refused where its base value is invalid
-abbrev pub AddsDay : Tally → (day base : Option ℕ) → Result Tally Refusal → Type 0
-AddsDay t day base (Ok t') = (is_invalid_base day base ≡ false) × Counts t t' day base
-AddsDay t day base (Err r) = (is_invalid_base day base ≡ true) × (r ≡ InvalidBase)
+-- what one day more makes of sums; where its base value is invalid, no more is said than that it is one day at most
+pub record AddsDay (t : Tally) (d b : ℕ) (t' : Tally) : Type 0 where
+  pub few : t'.days ≤ t.days + 1
+  pub counts : is_invalid_base (day_of d) (base_of b) ≡ false → t.base ≤ 1000 * t.flow → Counts t t' (day_of d) (base_of b)
 
 -- the sums of some days
 pub record SumsOf (ds : List (BaseDay ℕ)) (t : Tally) : Type 0 where

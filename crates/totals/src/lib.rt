@@ -38,14 +38,17 @@ pub fn total(days: &[u32], base: &[u64]) -> Result<Totals, Refusal>
     Ok(tally.totals())
 }
 
-// The sums over two lists, up to the first base value that is invalid.
+// The sums over two lists, or that a base value is invalid.
 fn sums(days: &[u32], base: &[u64]) -> Result<Tally, Refusal>
     requires { length days.now ≤ day_limit }
     ensures { FoundIn days.now base.now result }
 {
     let mut tally = Tally::NONE;
+    let mut invalid = false;
     for (day, base) in days.iter().zip(base) {
-        tally = tally.with_day(*day, *base)?;
+        invalid |= series::is_invalid_base(*day, *base);
+        tally = tally.with_day(*day, *base);
     }
+    series::refuse_if(invalid, Refusal::InvalidBase)?;
     Ok(tally)
 }

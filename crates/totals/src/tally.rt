@@ -10,10 +10,9 @@ pub(crate) struct Tally {
     pub(crate) days: u32,
     pub(crate) flow: u64,
     pub(crate) base: u64,
-    // no more days than a list may have, each of a flow that a u32 holds, and of no more base than flow
+    // no more days than a list may have, each of a flow that a u32 holds
     ghost few: { days ≤ 36525 },
     ghost small: { flow ≤ 4294967295 * days },
-    ghost below_flow: { base ≤ 1000 * flow },
 }
 
 impl Tally {
@@ -28,28 +27,29 @@ impl Tally {
         base: 0,
     };
 
-    // The sums with one day more. A base value where the day is missing, or one above 1000 × its flow, is refused: 20.
-    #[tactic(auto, using(crate::proofs::Summing::uncounted, crate::proofs::Summing::counted, crate::proofs::Summing::at_most_flow))]
-    pub(crate) fn with_day(self, day: u32, base: u64) -> Result<Tally, Refusal>
+    // The sums with one day more. (Without a branch, so that a walk over the days is the faster one; an invalid base value may
+    // wrap its sum round, which then is not used.)
+    #[tactic(auto, using(crate::proofs::Summing::uncounted, crate::proofs::Summing::counted))]
+    pub(crate) fn with_day(self, day: u32, base: u64) -> Tally
         requires { self.days < 36525 }
-        ensures { AddsDay self (day_of day) (base_of base) result }
+        ensures { AddsDay self day base result }
     {
-        if series::is_invalid_base(day, base) {
-            return Err(Refusal::InvalidBase);
+        let (count, flow, value) = if base == series::NO_VALUE {
+            (0, 0, 0)
+        } else {
+            (1, u64::from(day), base)
+        };
+        Tally {
+            days: self.days + count,
+            flow: self.flow + flow,
+            base: self.base.wrapping_add(value),
         }
-        if base == series::NO_VALUE {
-            return Ok(self);
-        }
-        Ok(Tally {
-            days: self.days + 1,
-            flow: self.flow + u64::from(day),
-            base: self.base + base,
-        })
     }
 
     // The totals from the sums.
     #[tactic(auto, using(crate::proofs::Outcomes::index_below))]
     pub(crate) fn totals(self) -> Totals
+        requires { self.base ≤ 1000 * self.flow }
         ensures { result ≡ totals_from self }
     {
         let index = numbers::near(10 * self.base, self.flow);

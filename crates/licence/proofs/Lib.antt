@@ -1,0 +1,6 @@
+mod Sentences
+mod Examples
+mod Days
+mod Lists
+mod Loops
+mod Calls

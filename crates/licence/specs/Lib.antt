@@ -1,0 +1,4 @@
+pub mod Rule
+pub mod Call
+pub mod Kept
+pub mod Private
