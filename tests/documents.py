@@ -79,7 +79,7 @@ def blocks(text):
         if kind == "sh":
             yield body, shown if next_kind == "text" else None
         elif kind != "text":
-            fail(f"README has a block marked {kind}")
+            fail(f"a page has a block marked {kind}")
 
 
 def commands(body):
@@ -103,15 +103,21 @@ def run(command):
     return done.stdout
 
 
-def try_commands():
-    print("documents: README's commands, as run:")
+def try_page(page):
+    """Runs the commands of a page, and holds the page to what they print."""
     ran = []
-    for body, shown in blocks(README.read_text()):
+    for body, shown in blocks(page.read_text()):
         lines = commands(body)
         printed = "".join(map(run, lines))
         ran += lines
         if shown is not None and not re.fullmatch(pattern(shown), printed):
-            fail(f"after `{lines[-1]}` README shows\n{shown}where this was printed:\n{printed[-3000:]}")
+            fail(f"after `{lines[-1]}` {page.name} shows\n{shown}where this was printed:\n{printed[-3000:]}")
+    return ran
+
+
+def try_commands():
+    print("documents: README's commands, as run:")
+    ran = try_page(README)
     words = {word for line in ran for word in line.split()}
     tests = {str(path.relative_to(ROOT)) for path in (ROOT / "tests").iterdir() if path.stat().st_mode & 0o100}
     left_out = sorted(tests - words - set(HELD))
@@ -129,4 +135,5 @@ def main():
     figures(write=words == ["write"])
 
 
-main()
+if __name__ == "__main__":
+    main()

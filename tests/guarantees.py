@@ -1,5 +1,5 @@
 #!/usr/bin/env python3
-"""Makes the figures of docs/GUARANTEES.md, in fractions, from document 01's table of methods (tests/rules.py).
+"""Makes the figures of docs/GUARANTEES.md, in fractions, from the limits that tools/baseflow prints (tools/desk/guarantee.py).
 
     tests/guarantees.py table       P for usual settings
     tests/guarantees.py example     what P says of an index
@@ -12,11 +12,11 @@ no figure promises too much.
 import re
 import sys
 from fractions import Fraction
-from math import ceil, floor
 
 sys.dont_write_bytecode = True
 import rules
 from interface import products
+from desk.guarantee import LINE_LIMIT, daily_limit, decimal, down, index_limit, spell_limits, up
 
 # method, p, q, s, passes
 USUAL = ((1, 9250, 0, 0, 1), (1, 9250, 0, 0, 2), (1, 9250, 0, 0, 3), (1, 9000, 0, 0, 1), (1, 9500, 0, 0, 1),
@@ -24,29 +24,8 @@ USUAL = ((1, 9250, 0, 0, 1), (1, 9250, 0, 0, 2), (1, 9250, 0, 0, 3), (1, 9000, 0
          (4, 9000, 500, 0, 1), (4, 9500, 1000, 0, 1), (5, 9780, 8000, 0, 1), (5, 9780, 5000, 0, 1),
          (5, 9780, 2500, 0, 1), (6, 9250, 0, 0, 1), (6, 9500, 0, 0, 1), (7, 9700, 300, -2000, 1),
          (7, 9500, 1000, -5000, 1))
-LINE_LIMIT = Fraction(1, 2)
 BFIMAX_P, BFIMAX_DAYS = (9500, 9700, 9800, 9900), (5, 10, 20, 60)
 CLOSE = Fraction(98, 100)  # a share of a limit that leaves no room for a much smaller one
-
-
-def daily_limit(method, p, q, s, passes):
-    A, _, _, d = rules.weights(method, p, q, s)
-    return Fraction(passes * d, 2 * (d - A))
-
-
-def decimal(value, places):
-    """A number that has so many decimals, exactly."""
-    scaled = floor(value * 10**places)
-    assert scaled == value * 10**places, value
-    return f"{scaled // 10**places}.{scaled % 10**places:0{places}}"
-
-
-def up(value, places):
-    return decimal(Fraction(ceil(value * 10**places), 10**places), places)
-
-
-def down(value, places):
-    return decimal(Fraction(floor(value * 10**places), 10**places), places)
 
 
 def table():
@@ -64,7 +43,7 @@ def example():
     method, p, _, _, _ = USUAL[0]
     mean, index = 100, 6123
     limit = daily_limit(*USUAL[0])
-    around = Fraction(1, 2) + 10 * limit / mean
+    around = index_limit(limit, 1, mean)
     yield (f"With method {method}, p {p}, one pass and a mean flow Y / m of {mean} litres a second the index's limit is "
            f"1/2 + 10 × {up(limit, 3)} / {mean}, which is {up(around, 2)} ten-thousandths: an index of "
            f"{decimal(Fraction(index, 10000), 4)} stands for an exact one between "
@@ -75,7 +54,7 @@ def bfimax():
     yield f"| p | {' | '.join(f'{days} days' for days in BFIMAX_DAYS)} |"
     yield "|---" * (1 + len(BFIMAX_DAYS)) + "|"
     for p in BFIMAX_P:
-        limits = (up(rules.stretched(p, days) / 1000, 4) for days in BFIMAX_DAYS)
+        limits = (up(spell_limits(p, days + 1)[days] / 1000, 4) for days in BFIMAX_DAYS)
         yield f"| {p} | {' | '.join(limits)} |"
 
 

@@ -11,8 +11,8 @@ import tempfile
 sys.dont_write_bytecode = True
 from interface import ROOT
 
-NEED_ARCHIVE = ("tests/differential", "tests/exact.py", "tests/examples", "tests/record.py", "bench/run")
-NEED_GCC = ("tests/differential planted", "tests/exact.py", "tests/examples", "tests/record.py")
+NEED_ARCHIVE = ("tests/differential", "tests/exact.py", "tests/examples", "tests/record.py", "tests/office.py", "bench/run")
+NEED_GCC = ("tests/differential planted", "tests/exact.py", "tests/examples", "tests/record.py", "tests/office.py")
 
 
 def check(command, wanted, **environment):
