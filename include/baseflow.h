@@ -37,9 +37,10 @@
  *   - No allocation, no input or output, no exit, no panic. Of the C library only memmove and memset are needed. No
  *     floating point, but vector registers are used.
  *   - Every call ends, after a time that grows linearly with the lengths that it is given.
- *   - Stack, as bench/run measures it: baseflow_recession keeps three arrays of counters and needs 127 KiB; a call over
- *     presence bits lays out its days and needs 6 KiB more than its sister for up to 1,461 days, 43 KiB for up to 10,958,
- *     and 144 KiB for more; so no call needs more than 270 KiB, and all others stay below 1 KiB.
+ *   - Stack in bytes, as bench/run measures it: read 216, write 64, filter 328, filter_from 280, step 88, line 648,
+ *     staggered 744, totals 80, recession 129,760, half_life 8, meter 8, licence 88, bfimax 136, to_bits 64, from_bits 112.
+ *     A call over presence bits lays out its days and needs 6 KiB more than its sister for up to 1,461 days, 43 KiB for up
+ *     to 10,958, and 144 KiB for more; so no call needs more than 270 KiB.
  */
 #ifndef BASEFLOW_H
 #define BASEFLOW_H

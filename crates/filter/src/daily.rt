@@ -79,6 +79,8 @@ impl DailyFilter {
 
 impl Filter {
     // The step over input that has passed its checks: what pass 1 does with each day.
+    // Inlined, and `present` with it, so that in both callers the compiler knows which way the filter divides: no day tests it.
+    #[inline(always)]
     pub(crate) fn advance(self, state: DailyFilter, day: u32) -> Advanced
         requires { (invalid_yesterday state.yesterday ≡ false) × (is_invalid_day day ≡ false) }
         ensures state_value { (result.state ≡ day_state self.setting state day) × (result.base ≡ day_mark self.setting state day) }
@@ -98,6 +100,7 @@ impl Filter {
     }
 
     // The base value of a day that is not missing: a segment's first, or one behind a yesterday.
+    #[inline(always)]
     fn present(self, yesterday: Option<Yesterday>, flow: u32) -> u64
         requires valid { invalid_yesterday yesterday ≡ false }
         requires small { flow ≤ 10000000 }

@@ -91,10 +91,11 @@ impl Filter {
         requires state_value { invalid_yesterday state.yesterday ≡ false }
         ensures { base.new ≡ steps_run self.setting state days.now }
     {
+        let filter = self.for_many_days();
         let mut state = state;
         // Kept: days by their index, since behind a zip of iter_mut a proof knows no value that was written.
         for (t, value) in base.iter_mut().enumerate() {
-            let next = self.advance(state, days[t]);
+            let next = filter.advance(state, days[t]);
             *value = next.base;
             state = next.state;
         }
@@ -115,9 +116,10 @@ impl Filter {
         requires { SmallList base.old }
         ensures { (base.new ≡ forward_run (weights self.setting) base.old) × SmallList base.new }
     {
+        let filter = self.for_many_days();
         let mut previous = None;
         for value in base.iter_mut() {
-            let passed = self.pass_day(previous, *value);
+            let passed = filter.pass_day(previous, *value);
             *value = passed.base;
             previous = passed.previous;
         }

@@ -1,6 +1,8 @@
 // The filter of a setting that can be used, and a day's f by it.
-ghost use Rattle.std.specs.Prelude.{◌≡◌, [], ◌∷◌, ◌≤◌, IfOk};
+ghost use Rattle.std.specs.Prelude.{◌≡◌, ℕ, ◌+◌, ◌-◌, ◌/◌, [], ◌∷◌, ◌≤◌, IfOk};
+ghost use Rattle.std.specs.Option.{ForSome};
 ghost use Rattle.numbers.specs.Arithmetic.{rounded};
+ghost use Rattle.numbers.specs.Near.{near};
 ghost use Rattle.series.specs.Causes.{cause, first_cause, refusal_of};
 ghost use Rattle.filter.specs.Methods.{method_of, weights, start, unknown_method, out_of_range, invalid_passes, Usable};
 ghost use Rattle.filter.specs.Passes.{step};
@@ -8,17 +10,21 @@ ghost use Rattle.filter.specs.Private.{weights_of, Small, dividend};
 
 use crate::Setting;
 use crate::method::{Coefficients, Method, Share};
+use numbers::Divisor;
 use series::{Refusal, refuse_if};
 
-// A setting that passed its checks, with its method and its row of the table.
+// A setting that passed its checks, with its method and its row of the table. Where it filters many days, d stands once more,
+// as their divisor.
 #[derive(Clone, Copy)]
 pub(crate) struct Filter {
     pub(crate) setting: Setting,
     method: Method,
     row: Coefficients,
+    divisor: Option<Divisor>,
     ghost usable: { Usable setting },
     ghost method_is: { method ≡ method_of setting.method },
     ghost row_is: { weights_of row ≡ weights setting },
+    ghost divisor_is: { ForSome divisor (λ v. v.by ≡ row.d) },
 }
 
 // Kept: that f, u and v are small stands in each clause; a type of small numbers would be taken apart at each product.
@@ -37,7 +43,22 @@ impl Filter {
             setting,
             method,
             row,
+            divisor: None,
         })
+    }
+
+    // The same filter with a divisor. Each walk over days makes its own, at one division, and in its loop the compiler then knows
+    // which way the filter divides. A single day has none, since that would be its second division.
+    #[inline(always)]
+    pub(crate) fn for_many_days(self) -> Self
+        ensures { result.setting ≡ self.setting }
+    {
+        Filter {
+            setting: self.setting,
+            method: self.method,
+            row: self.row,
+            divisor: Some(Divisor::new(self.row.d)),
+        }
     }
 
     // 13: the passes are not 1 to 3 in method 1, or not 1 in another.
@@ -77,12 +98,22 @@ impl Filter {
         }
     }
 
+    // near(a / d) from a sum in which half of d is added to a: by the divisor, where there is one.
+    fn mean(self, sum: u64) -> u64
+        ensures { (a loss : ℕ) → sum ≡ a + self.row.d / 2 - loss → result ≡ near (a - loss) self.row.d }
+    {
+        match self.divisor {
+            None => numbers::near_halved(sum, self.row.d),
+            Some(divisor) => divisor.near_halved(sum),
+        }
+    }
+
     // f(t), from f = f(t-1), u = u(t) and v = u(t-1).
     pub(crate) fn smoothed(self, f: u64, u: u64, v: u64) -> u64
         requires { Small f × Small u × Small v }
         ensures { result ≡ step rounded (weights self.setting) f u v }
     {
-        let rounded = numbers::near_halved(self.sum(f, u, v), self.row.d);
+        let rounded = self.mean(self.sum(f, u, v));
         u.min(rounded)
     }
 }

@@ -1,5 +1,7 @@
--- Computed examples: near at and around halves, fractions by cross-multiplying, and one rounding step in both readings.
+-- Computed examples: near at and around halves, quotients by a reciprocal, fractions by cross-multiplying, and one rounding
+-- step in both readings.
 -- Assumes nothing.
+use Prim.Native.Nat.{◌/◌}
 use mathlib.Core.Path.{◌≡◌, refl}
 use lib.IntN.{pos, negsuc}
 use lib.Signed.{le_z_yes}
@@ -7,6 +9,7 @@ use lib.Dec.{lit<}
 use Rattle.numbers.specs.Near.{near}
 use Rattle.numbers.specs.Fraction.{Fraction, whole, half, sum, opposite, difference, surplus, multiple, quotient, least, Within}
 use Rattle.numbers.specs.Arithmetic.{Weights, row, weighted, rounded, exact}
+use Rattle.numbers.proofs.Reciprocals.{product}
 
 below_half : near 149 100 ≡ 1
 unfolding near
@@ -33,6 +36,22 @@ largest = refl
 largest_up : near 999_999_990_050_000_000 99_999_999 ≡ 10_000_000_001
 unfolding near
 largest_up = refl
+
+-- quotients by a reciprocal before they are mended: below a whole one is none, and at each whole one is short by one
+by_reciprocal_below : product 19_999 (18_446_744_073_709_551_615 / 20_000) ≡ 0
+by_reciprocal_below = refl
+
+by_reciprocal_above : product 20_001 (18_446_744_073_709_551_615 / 20_000) ≡ 1
+by_reciprocal_above = refl
+
+short_at_whole : product 20_000 (18_446_744_073_709_551_615 / 20_000) ≡ 0
+short_at_whole = refl
+
+short_at_largest : product 18_446_744_073_709_551_615 (18_446_744_073_709_551_615 / 1) ≡ 18_446_744_073_709_551_614
+short_at_largest = refl
+
+short_past_half : product 18_446_744_073_709_551_615 (18_446_744_073_709_551_615 / 9_223_372_036_854_775_809) ≡ 0
+short_past_half = refl
 
 third : Fraction
 third = record { upper = pos 1; lower = 3; above_zero = lit< tt }

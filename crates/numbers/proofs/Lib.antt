@@ -1,4 +1,5 @@
 pub mod Rounding
+mod Reciprocals
 pub mod Whole
 pub mod Signs
 pub mod Fractions

@@ -10,4 +10,4 @@ mod WritingWalk
 mod Reading
 mod Putting
 mod EntriesRead
-mod Wider
+mod OtherLists

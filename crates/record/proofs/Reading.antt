@@ -1,19 +1,22 @@
 -- What all bytes come to: by the head in front, and then by the days behind it.
 -- Assumes nothing.
-use Prim.Native.Nat.{ℕ}
-use mathlib.Core.Path.{◌≡◌, refl, sym, ◌∙◌, ap}
+use Prim.Native.Nat.{ℕ, ◌≤◌}
+use mathlib.Core.Path.{◌≡◌, refl, sym, ◌∙◌, ap, ap₂}
 use mathlib.Core.Bool.{true, false}
-use mathlib.Core.List.{List, [], ◌∷◌}
+use mathlib.Core.List.{List, [], ◌∷◌, ◌++◌}
 use mathlib.Core.Option.{some, none}
-use lib.ListN.{length}
-use Rattle.series.specs.Causes.{first_cause, Outcome, accepted, refused, by_outcome, map_outcome}
+use native.Mathlib.Omega.{arith}
+use lib.ListN.{length, take, drop, length-take}
+use Rattle.series.specs.Causes.{first_cause, Outcome, accepted, refused, map_outcome}
 use Rattle.series.proofs.Refusing.{never_both}
-use Rattle.numbers.specs.Lists.{stored}
 use Rattle.record.specs.declared.entry.Entry.{Entry as Found}
 use Rattle.record.specs.Entries.{entry_of, value, is_end, days_of}
 use Rattle.record.specs.Call.{Stated, days_from, first_day_of, reading, reply_of, read_leaves}
 use Rattle.record.specs.Private.{front_causes, Placed}
 use Rattle.record.proofs.EntryOutcomes.{head_first}
+use Rattle.record.proofs.Soundness.{sound}
+use Rattle.record.proofs.Accepting.{stored_days}
+use Rattle.record.proofs.OtherLists.{filling}
 use Rattle.record.proofs.Walk.{before_none, own_days, refused_front, next_front}
 
 -- a first day, and days behind it
@@ -46,6 +49,38 @@ module _ (first_day : ℕ) where
   list_left (accepted ds) list h = absurd (never_both h)
   list_left (refused r) list h = refl
 
-  pub list_written : (d : Outcome (List ℕ)) (list : List ℕ) → by_outcome d (λ _. list) (λ ds. stored list 0 ds) ≡ read_leaves (with_first first_day d) list
-  list_written (accepted ds) list = refl
-  list_written (refused r) list = refl
+-- the days behind a head, counted for a list: they fill its front
+record Counted (room : ℕ) (s : List ℕ) (n : ℕ) : Type 0 where
+  days : List ℕ
+  all : days_from false 0 room 0 s ≡ accepted days
+  count : length days ≡ n
+
+counted : (room : ℕ) (s : List ℕ) {n : ℕ} → accepted n ≡ map_outcome length (days_from false 0 room 0 s) → Counted room s n
+counted room s {n} h = by_outcome (days_from false 0 room 0 s) refl h
+  where
+    by_outcome : (o : Outcome (List ℕ)) → days_from false 0 room 0 s ≡ o → accepted n ≡ map_outcome length o → Counted room s n
+    by_outcome (accepted ds) q g = record { days = ds; all = q; count = (cc) }
+    by_outcome (refused r) q g = absurd (never_both (sym g))
+
+module _ (list s : List ℕ) {n : ℕ} (h : accepted n ≡ map_outcome length (days_from false 0 (length list) 0 s)) where
+  abbrev c : Counted (length list) s n
+  c = counted (length list) s h
+
+  pub count_fits : n ≤ length list
+  count_fits = omega (arith, c.count, (sound false 0 (length list) 0 s c.all).fits)
+
+  pub front_length : n ≡ length (take n list)
+  front_length = omega (arith, count_fits, length-take n list)
+
+  front_reads : days_from false 0 (length (take n list)) 0 s ≡ accepted c.days
+  front_reads = ap (λ k. days_from false 0 k 0 s) (sym (c.count ∙ front_length)) ∙ filling (length list) s c.all
+
+  pub front_filled : map_outcome length (days_from false 0 (length (take n list)) 0 s) ≡ accepted (length (take n list))
+  front_filled = ap (map_outcome length) front_reads ∙ ap accepted (c.count ∙ front_length)
+
+  pub list_written : (first_day : ℕ) {days : List ℕ} → accepted days ≡ days_from false 0 (length (take n list)) 0 s
+      → days ++ drop n list ≡ read_leaves (with_first first_day (days_from false 0 (length list) 0 s)) list
+  list_written first_day {days} g =
+      let same : accepted days ≡ accepted c.days = g ∙ front_reads in
+      let d : days ≡ c.days = cc in
+      ap₂ (λ l k. l ++ drop k list) d (sym c.count) ∙ sym (stored_days list (record { first_day = first_day; days = c.days })) ∙ sym (ap (λ o. read_leaves (with_first first_day o) list) c.all)

@@ -25,7 +25,7 @@ use Rattle.series.proofs.Tests.{few_days, not_too_long}
 use Rattle.record.proofs.Walk.{before_none}
 use Rattle.record.proofs.Putting.{entries_bound, written_length}
 use Rattle.record.proofs.EntriesRead.{days_read, days_back, head_back}
-use Rattle.record.proofs.Wider.{wider}
+use Rattle.record.proofs.OtherLists.{wider}
 
 -- a first day and days that can be written
 pub record Writable (first_day : ℕ) (days : List ℕ) : Type 0 where

@@ -35,7 +35,8 @@ pub fn read(bytes: &[u8], days: &mut [u32]) -> Result<Reply, Refusal>
 {
     let head = check_entry(bytes, true, 0, days.len())?;
     let day_count = check_days(head.behind, days.len())?;
-    write_days(head.behind, days);
+    // Kept: `as`, since std has no From between u32 and usize, and TryFrom would add an error that never comes.
+    write_days(head.behind, &mut days[..day_count as usize]);
     Ok(Reply {
         first_day: head.value,
         day_count,

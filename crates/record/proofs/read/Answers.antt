@@ -7,7 +7,7 @@ use lib.ListN.{length}
 use Rattle.std.proofs.lemmas.Result.{err_from_is_err_and}
 use Rattle.series.specs.Causes.{Outcome}
 use Rattle.record.specs.Call.{days_from, reading, reply_of, read_leaves}
-use Rattle.record.proofs.Reading.{with_first, no_head, head_read, replied, list_left, list_written}
+use Rattle.record.proofs.Reading.{with_first, no_head, head_read, replied, list_left, count_fits, front_length, front_filled, list_written}
 use Rattle.record.proofs.read.Goals as goal
 use Rattle.record.proofs.read.Goals.{In_ok-head}
 
@@ -40,6 +40,16 @@ pub returns-clause-answer : goal.returns-clause-answer
 returns-clause-answer c =
     replied c.in_ok-head.head.value _ c.in_ok-day_count.ensures ∙ sym (ap reply_of (all (goal.at.returns-clause-answer c).In_ok-head))
 
+pub slice_bounds-write_days-end : goal.slice_bounds-write_days-end
+slice_bounds-write_days-end c = count_fits c.args.days.now c.in_ok-head.head.behind.now c.in_ok-day_count.ensures
+
+pub slice_bounds-write_days-end-2 : goal.slice_bounds-write_days-end-2
+slice_bounds-write_days-end-2 c = front_length c.args.days.now c.in_ok-head.head.behind.now c.in_ok-day_count.ensures
+
+pub write_days-requires : goal.write_days-requires
+write_days-requires c = front_filled c.args.days.now c.in_ok-head.head.behind.now c.in_ok-day_count.ensures
+
 pub returns-clause-list : goal.returns-clause-list
 returns-clause-list c =
-    c.write_days.ensures ∙ list_written c.in_ok-head.head.value _ c.args.days.now ∙ sym (ap (λ o. read_leaves o c.args.days.now) (all (goal.at.returns-clause-list c).In_ok-head))
+    list_written c.args.days.now c.in_ok-head.head.behind.now c.in_ok-day_count.ensures c.in_ok-head.head.value c.write_days.ensures
+    ∙ sym (ap (λ o. read_leaves o c.args.days.now) (all (goal.at.returns-clause-list c).In_ok-head))

@@ -13,4 +13,4 @@ pub loop-value-preserved : goal.loop-value-preserved
 loop-value-preserved c = later_turn _ _ (omega arith) c.loop-value.invariant (c.pass_day-passed.ensures.previous_value, c.pass_day-passed.ensures.small_previous)
 
 pub returns : goal.returns
-returns c = later_end _ _ (omega arith) c.loop-value.invariant
+returns c = rw c.for_many_days-filter.ensures at (later_end _ _ (omega arith) c.loop-value.invariant)

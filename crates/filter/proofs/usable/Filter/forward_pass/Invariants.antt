@@ -5,4 +5,4 @@ use Rattle.filter.proofs.Turns.{LaterPass}
 use Rattle.filter.proofs.usable.Filter.forward_pass.Given as goal
 
 abbrev pub invariant-loop-value : goal.invariant-loop-value
-invariant-loop-value l = LaterPass (weights l.self.setting) l.initial.base l.base l.previous l.value-index
+invariant-loop-value l = LaterPass (weights l.filter.setting) l.initial.base l.base l.previous l.value-index

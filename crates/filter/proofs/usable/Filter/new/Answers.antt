@@ -1,5 +1,5 @@
 -- `filter::usable::Filter::new` meets its contract: the number's method, then the ranges.
-use Rattle.std.proofs.Common.{sym, ◌∙◌}
+use Rattle.std.proofs.Common.{rules, sym, ◌∙◌}
 use Rattle.std.proofs.lemmas.Result.{err_from_is_err_and}
 use Rattle.filter.specs.Methods.{Usable}
 use Rattle.filter.proofs.MethodNumbers.{no_method, named, outside, inside, method_row, row_weights}
@@ -25,4 +25,4 @@ coefficients-row-requires c = method_row (named _ (sym c.in_ok-method.was ∙ c.
 pub invariant_of-result : goal.invariant_of-result
 invariant_of-result c =
     let m = (named _ (sym c.in_ok-method.was ∙ c.try_from.ensures)).1 in
-    record { usable = usable (goal.at.invariant_of-result c).In_ok-refuse_if; method_is = m; row_is = row_weights _ m c.coefficients-row.ensures }
+    record { usable = usable (goal.at.invariant_of-result c).In_ok-refuse_if; method_is = m; row_is = row_weights _ m c.coefficients-row.ensures; divisor_is = search rules }

@@ -15,4 +15,4 @@ loop-t-preserved c =
     steps_turn _ _ _ (omega arith) (omega arith) c.loop-t.invariant (c.advance-next.ensures.state_value, c.advance-next.ensures.next_yesterday)
 
 pub returns : goal.returns
-returns c = steps_end _ _ _ (omega arith) (omega arith) c.loop-t.invariant
+returns c = rw c.for_many_days-filter.ensures at (steps_end _ _ _ (omega arith) (omega arith) c.loop-t.invariant)

@@ -3,4 +3,4 @@ use Rattle.filter.proofs.Turns.{Steps}
 use Rattle.filter.proofs.usable.Filter.steps.Given as goal
 
 abbrev pub invariant-loop-t : goal.invariant-loop-t
-invariant-loop-t l = Steps l.self.setting l.fn.state l.days l.base l.state l.t
+invariant-loop-t l = Steps l.filter.setting l.fn.state l.days l.base l.state l.t

@@ -1,11 +1,11 @@
--- `numbers::near_halved` meets its contract: of an even quotient and of an odd b nothing is taken.
+-- `numbers::near_of_parts` meets its contract: of an even quotient and of an odd b nothing is taken.
 use Prim.Native.Nat.{ℕ, ◌+◌, ◌-◌, ◌/◌, ◌%◌, ◌≤◌, ◌<◌}
 use mathlib.Core.Path.{◌≡◌, sym, ap, ◌∙◌}
 use native.Mathlib.Decide.{ℕ_discrete}
 use native.Mathlib.Omega.{arith}
 use Rattle.numbers.specs.Near.{near}
 use Rattle.numbers.proofs.Rounding.{near_part, near_even}
-use Rattle.numbers.proofs.near_halved.Goals as goal
+use Rattle.numbers.proofs.near_of_parts.Goals as goal
 
 module _ (h b : ℕ) (p : 0 < b) (a loss : ℕ) (e : h ≡ a + b / 2 - loss) where
   last-bit-taken : h % b < h / b % 2 → h / b - h / b % 4 % (2 - b % 2) ≡ near (a - loss) b
@@ -23,8 +23,9 @@ module _ (h b : ℕ) (p : 0 < b) (a loss : ℕ) (e : h ≡ a + b / 2 - loss) whe
         | no n ↦ sym (near_part a loss b h p e n)
       ]
 
-pub returns-then-h-b : goal.returns-then-h-b
-returns-then-h-b c a loss e = ap (λ k. c.args.h / c.args.b - k) c.from.ensures ∙ last-bit-taken c.args.h c.args.b c.requires a loss e c.if-h-b.true
+pub returns-then-rest-whole : goal.returns-then-rest-whole
+returns-then-rest-whole c h a loss w r e =
+    ap (λ k. c.args.whole - k) c.from.ensures ∙ rw w (last-bit-taken h c.args.b c.requires a loss e (rw (w, r) at c.if-rest-whole.true))
 
-pub returns-else-h-b : goal.returns-else-h-b
-returns-else-h-b c a loss e = left-whole c.args.h c.args.b c.requires a loss e c.if-h-b.false
+pub returns-else-rest-whole : goal.returns-else-rest-whole
+returns-else-rest-whole c h a loss w r e = w ∙ left-whole h c.args.b c.requires a loss e (rw (w, r) at c.if-rest-whole.false)
