@@ -4,8 +4,8 @@
  * Base flow is the part of a river's flow that groundwater feeds. From a record of daily flows the engine reads the
  * days, or a flow meter's readings, separates base flow by a recursive filter or by the smoothed-minima line, totals it,
  * finds recession ratios and half-lives, estimates BFImax from the river itself, and replays a river against the licence
- * of a pump. Link with target/staticlib/libbaseflow.a, which `tools/archive` makes (x86-64-v2:
- * x86-64 with SSE4.2 and POPCNT).
+ * of a pump. Link with target/staticlib/libbaseflow.a, which `tools/archive` makes, or in a release with lib/libbaseflow.a
+ * (x86-64-v2: x86-64 with SSE4.2 and POPCNT).
  *
  * Units
  *   flow        litres a second, whole, 0 to 10,000,000
@@ -41,6 +41,15 @@
  *     staggered 744, totals 80, recession 129,760, half_life 8, meter 8, licence 88, bfimax 136, to_bits 64, from_bits 112.
  *     A call over presence bits lays out its days and needs 6 KiB more than its sister for up to 1,461 days, 43 KiB for up
  *     to 10,958, and 144 KiB for more; so no call needs more than 270 KiB.
+ *
+ * Versions
+ *   A changed signature or figure is a new major version, a new call or tool a minor one, and anything else a patch. Each
+ *   call says since which version it has its signature. With each major version changed:
+ *   2.0.0       figures: the minima line turns in every dry block
+ *   3.0.0       signatures: the filter and the step take s
+ *   4.0.0       figures: limbs are listed with the longest first
+ *   5.0.0       figures: halves are rounded to the even number
+ *   6.0.0       signature and figures: recession ratios come of days at base, and so of a base list
  */
 #ifndef BASEFLOW_H
 #define BASEFLOW_H
@@ -51,6 +60,16 @@
 #ifdef __cplusplus
 extern "C" {
 #endif
+
+/* version */
+#define BASEFLOW_VERSION_MAJOR 6
+#define BASEFLOW_VERSION_MINOR 9
+#define BASEFLOW_VERSION_PATCH 0
+#define BASEFLOW_VERSION /* "MAJOR.MINOR.PATCH" */ \
+    BASEFLOW_VERSION_JOINED(BASEFLOW_VERSION_MAJOR, BASEFLOW_VERSION_MINOR, BASEFLOW_VERSION_PATCH)
+#define BASEFLOW_VERSION_JOINED(major, minor, patch) \
+    BASEFLOW_VERSION_TEXT(major) "." BASEFLOW_VERSION_TEXT(minor) "." BASEFLOW_VERSION_TEXT(patch)
+#define BASEFLOW_VERSION_TEXT(number) #number
 
 /* marks */
 #define BASEFLOW_MISSING UINT32_MAX  /* in a day list: a missing day, 4,294,967,295 */
@@ -127,6 +146,7 @@ enum baseflow_answer {
  * Refuses entry by entry: 2, 3, 1, 4, 5, 6, and then for an end entry 7, 8. No bytes at all is 1.
  * On 0: *first_day is the first day since 1 January 1900, *day_count the number of days (0 to 36,525). That many
  * numbers are written from the start of `days`, the rest of it is left as it was. `days` may be of any length.
+ * Signature since 1.0.0.
  */
 uint32_t baseflow_read(const uint8_t *bytes, size_t bytes_len, uint32_t *days, size_t days_len, uint32_t *first_day,
                        uint32_t *day_count);
@@ -138,6 +158,7 @@ uint32_t baseflow_read(const uint8_t *bytes, size_t bytes_len, uint32_t *days, s
  * Refuses: 9, 4, 10, 30.
  * On 0: *record_len bytes are written from the start of `bytes`, the rest of it is left as it was. 10 + 5 * days_len bytes
  * are always enough.
+ * Signature since 6.6.0.
  */
 uint32_t baseflow_write(uint32_t first_day, const uint32_t *days, size_t days_len, uint8_t *bytes, size_t bytes_len,
                         uint32_t *record_len);
@@ -150,6 +171,7 @@ uint32_t baseflow_write(uint32_t first_day, const uint32_t *days, size_t days_le
  * Refuses: 11, 12, 13, 9, 14, 10.
  * On 0: all of `base` is written, BASEFLOW_NO_VALUE on missing days and at most 1000 * flow on the others.
  * Lend a base list exactly as long as the day list.
+ * Signature since 3.0.0.
  */
 uint32_t baseflow_filter(uint32_t method, uint32_t p, uint32_t q, int32_t s, uint32_t passes, const uint32_t *days,
                          size_t days_len, uint64_t *base, size_t base_len);
@@ -161,6 +183,7 @@ uint32_t baseflow_filter(uint32_t method, uint32_t p, uint32_t q, int32_t s, uin
  * Refuses: 11, 12, 13, 9, 14, 10, 29.
  * On 0: as baseflow_filter. From a lower start the base flow is higher on no day, and the difference dies out: see
  * docs/GUARANTEES.md.
+ * Signature since 6.5.0.
  */
 uint32_t baseflow_filter_from(uint32_t method, uint32_t p, uint32_t q, int32_t s, uint32_t passes, uint64_t start,
                               const uint32_t *days, size_t days_len, uint64_t *base, size_t base_len);
@@ -174,6 +197,7 @@ uint32_t baseflow_filter_from(uint32_t method, uint32_t p, uint32_t q, int32_t s
  * Refuses: 11, 12, 15, 10.
  * On 0: *value is the day's base flow and the state is that of this day (*has_yesterday 1, *flow the day, *base its
  * base flow); after a missing day *value is BASEFLOW_NO_VALUE and *has_yesterday, *flow and *base are 0.
+ * Signature since 3.0.0.
  */
 uint32_t baseflow_step(uint32_t method, uint32_t p, uint32_t q, int32_t s, uint32_t day, uint32_t *has_yesterday,
                        uint32_t *flow, uint64_t *base, uint64_t *value);
@@ -186,6 +210,7 @@ uint32_t baseflow_step(uint32_t method, uint32_t p, uint32_t q, int32_t s, uint3
  * Refuses: 16, 9, 14, 10, 17.
  * On 0: all of `base` is written, BASEFLOW_NO_VALUE on every day that lies between no two turning points of a stretch.
  * Lend a base list exactly as long as the day list.
+ * Signature since 1.0.0.
  */
 uint32_t baseflow_line(uint32_t block_days, uint32_t factor, const uint32_t *days, size_t days_len, uint64_t *base,
                        size_t base_len);
@@ -200,6 +225,7 @@ uint32_t baseflow_line(uint32_t block_days, uint32_t factor, const uint32_t *day
  * On 0: all of `base` is written, and `work` holds the lines one behind the other, that of shift o from place
  * o * days_len on.
  * Lend a base list exactly as long as the day list, and a work list block_days times as long.
+ * Signature since 6.1.0.
  */
 uint32_t baseflow_staggered(uint32_t block_days, uint32_t factor, uint32_t choice, const uint32_t *days,
                             size_t days_len, uint64_t *base, size_t base_len, uint64_t *work, size_t work_len);
@@ -211,6 +237,7 @@ uint32_t baseflow_staggered(uint32_t block_days, uint32_t factor, uint32_t choic
  * On 0: *base_days is the number of those days, *flow_total their flow in litres a second (summed over days),
  * *base_total their base flow and *quick_total the remaining flow, both in thousandths, *index the share of base flow
  * in ten-thousandths, 0 to 10,000.
+ * Signature since 1.0.0.
  */
 uint32_t baseflow_totals(const uint32_t *days, size_t days_len, const uint64_t *base, size_t base_len,
                          uint32_t *base_days, uint64_t *flow_total, uint64_t *base_total, uint64_t *quick_total,
@@ -233,6 +260,7 @@ uint32_t baseflow_totals(const uint32_t *days, size_t days_len, const uint64_t *
  *   baseflow_line(5, 9000, days, n, base, n);
  *   baseflow_recession(5, days, n, base, n, limbs, n, &ratio_count, &p);
  *   baseflow_filter(BASEFLOW_ECKHARDT, p, 8000, 0, 1, days, n, base, n);
+ * Signature since 6.0.0.
  */
 uint32_t baseflow_recession(uint32_t limb_days, const uint32_t *days, size_t days_len, const uint64_t *base,
                             size_t base_len, uint32_t *limbs, size_t limbs_len, uint32_t *ratio_count, uint32_t *ratio);
@@ -247,6 +275,7 @@ uint32_t baseflow_recession(uint32_t limb_days, const uint32_t *days, size_t day
  * On 0: *bfimax is the share of base flow in those days, in ten-thousandths, 0 to 10,000. All of `base` is written, at
  * most 1000 * flow on those days and BASEFLOW_NO_VALUE on every other.
  * Lend a base list exactly as long as the day list. A BFImax of 0 or 10,000 is no q of method 5.
+ * Signature since 4.1.0.
  */
 uint32_t baseflow_bfimax(uint32_t last_day, uint32_t duration, uint32_t p, const uint32_t *days, size_t days_len,
                          uint64_t *base, size_t base_len, uint32_t *bfimax);
@@ -262,6 +291,7 @@ uint32_t baseflow_bfimax(uint32_t last_day, uint32_t duration, uint32_t p, const
  * 1000, the more a thousandth is worth: from 998 to 999 it is 347 and 693 days.
  *   baseflow_half_life(ratio / 10, &fewest);
  *   baseflow_half_life((ratio + 9) / 10, &most);
+ * Signature since 6.2.0.
  */
 uint32_t baseflow_half_life(uint32_t p, uint32_t *days);
 
@@ -274,6 +304,7 @@ uint32_t baseflow_half_life(uint32_t p, uint32_t *days);
  * Refuses: 1 (no bytes), 2, 1 (a float cut short), 8, 26, 27.
  * On 0: *day is what a day list has: the flow, or BASEFLOW_MISSING for no reading. Negative zero is 0.
  * The distance that a filter keeps from the exact run is counted from this day, and not from the float.
+ * Signature since 6.3.0.
  */
 uint32_t baseflow_meter(const uint8_t *bytes, size_t bytes_len, uint32_t *day);
 
@@ -285,6 +316,7 @@ uint32_t baseflow_meter(const uint8_t *bytes, size_t bytes_len, uint32_t *day);
  * Refuses: 31, 9, 14 (base list or takings list not as long as the day list), 10, 20.
  * On 0: takings are written in full, and *quota_left is the quota less all of them. On no day is flow less taking below
  * base. To go on with more days later, hand *quota_left over as their quota.
+ * Signature since 6.7.0.
  */
 uint32_t baseflow_licence(uint32_t daily_limit, uint64_t quota, const uint32_t *days, size_t days_len,
                           const uint64_t *base, size_t base_len, uint32_t *takings, size_t takings_len,
@@ -302,6 +334,7 @@ uint32_t baseflow_licence(uint32_t daily_limit, uint64_t quota, const uint32_t *
  *
  * Refuses: 9, 14 (flows not as long as days), 28 (the number of words alone), 10.
  * On 0: flows and words are written in full, *present is the number of present days: the ones in the words.
+ * Signature since 6.4.0.
  */
 uint32_t baseflow_to_bits(const uint32_t *days, size_t days_len, uint32_t *flows, size_t flows_len, uint64_t *words,
                           size_t words_len, uint32_t *present);
@@ -311,6 +344,7 @@ uint32_t baseflow_to_bits(const uint32_t *days, size_t days_len, uint32_t *flows
  *
  * Refuses: 9, 14 (days not as long as flows), 28, 10 (under a one a number above 10,000,000, BASEFLOW_MISSING too).
  * On 0: days is written in full, *present is the number of present days: the ones in the words.
+ * Signature since 6.4.0.
  */
 uint32_t baseflow_from_bits(const uint32_t *flows, size_t flows_len, const uint64_t *words, size_t words_len,
                             uint32_t *days, size_t days_len, uint32_t *present);
@@ -319,6 +353,7 @@ uint32_t baseflow_from_bits(const uint32_t *flows, size_t flows_len, const uint6
  * The calls over a day list, over flows and words in its place: over a form that converts, each answers and writes what its
  * sister does over the days of that form. Each refuses in its sister's order, with 28 just before 10; its 14 compares base
  * with flows. The days are laid out on the call's own stack (see "What the caller gets").
+ * Signatures since 6.4.0, that of baseflow_filter_from_bits since 6.5.0.
  */
 uint32_t baseflow_filter_bits(uint32_t method, uint32_t p, uint32_t q, int32_t s, uint32_t passes, const uint32_t *flows,
                               size_t flows_len, const uint64_t *words, size_t words_len, uint64_t *base,

@@ -26,7 +26,8 @@ GATE = ".ci/run"  # runs this script
 ENDLESS = "tests/differential forever"
 ENDLESS_SECONDS = 8
 HELD = {"tests/documents.py": "this script", "tests/guarantees.py": "makes a part of a page",
-        "tests/refusals.py": "makes a part of a page", "tests/forgotten.py": "makes a part of a page"}
+        "tests/refusals.py": "makes a part of a page", "tests/forgotten.py": "makes a part of a page",
+        "tests/version.py": "makes a part of a page"}
 
 
 def fail(message):
@@ -57,8 +58,8 @@ def figures(write):
     loose = [line for line in MADE.sub("", PAGE.read_text()).splitlines() if re.search(r"\d\.\d", line)]
     if loose:
         fail(f"{PAGE.name} has a figure that no script makes: {loose[0]}")
-    if parts < 7:
-        fail(f"{parts} parts are made by scripts, where 7 are wanted")
+    if parts < 8:
+        fail(f"{parts} parts are made by scripts, where 8 are wanted")
     print(f"documents: {parts} parts are as their scripts print them")
 
 

@@ -11,8 +11,9 @@ import tempfile
 sys.dont_write_bytecode = True
 from interface import ROOT
 
-NEED_ARCHIVE = ("tests/differential", "tests/exact.py", "tests/examples", "tests/record.py", "tests/office.py", "bench/run")
-NEED_GCC = ("tests/differential planted", "tests/exact.py", "tests/examples", "tests/record.py", "tests/office.py")
+NEED_ARCHIVE = ("tests/differential", "tests/exact.py", "tests/examples", "tests/record.py", "tests/office.py", "bench/run",
+                "tests/release.py")
+NEED_GCC = ("tests/differential planted", "tests/exact.py", "tests/examples", "tests/record.py", "tests/office.py", "tests/release.py")
 
 
 def check(command, wanted, **environment):
