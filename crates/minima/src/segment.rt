@@ -19,10 +19,12 @@ fn lowest_day(flows: &[u32]) -> usize
 {
     let mut low = 0;
     let mut lowest = flows[0];
-    for (t, flow) in flows.iter().enumerate() {
-        if *flow < lowest {
+    // From the second day on, by its number: with blocks of one day the first is all there is.
+    for t in 1..flows.len() {
+        let flow = flows[t];
+        if flow < lowest {
             low = t;
-            lowest = *flow;
+            lowest = flow;
         }
     }
     low

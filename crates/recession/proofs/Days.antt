@@ -2,7 +2,7 @@
 -- Assumes nothing.
 use Prim.Native.Nat.{ℕ, zero, suc, ◌*◌, ◌≤◌, ◌<◌}
 use mathlib.Core.Path.{◌≡◌, refl, sym, ◌∙◌, ap}
-use mathlib.Core.Bool.{Bool, true, false, cond, true≢false}
+use mathlib.Core.Bool.{Bool, true, false, cond}
 use mathlib.Core.List.{List, [], ◌∷◌}
 use mathlib.Core.Logic.{◌⊎◌, inl, inr}
 use mathlib.Core.Option.{Option, none, some, none-ne-some, some-injective}
@@ -60,12 +60,9 @@ unseen_by_test d b (inr e) = go (ℕ_discrete d missing_mark) (ℕ_discrete b no
     go (no m) (yes n) = rw (day_present d m, base_none b n)
     go (no m) (no n) = rw (day_present d m, base_value b n) (simp (ne_eqb b (1000 * d) e))
 
--- A missing day with a base value of 1000 × its mark is invalid; so one test of a valid day is enough.
-invalid_by_test : (d b : ℕ) → b ≡ 1000 * d → d ≡ missing_mark → is_invalid_base (day_of d) (base_of b) ≡ true
+-- a missing day with a base value of 1000 × its mark is invalid
+pub invalid_by_test : (d b : ℕ) → b ≡ 1000 * d → d ≡ missing_mark → is_invalid_base (day_of d) (base_of b) ≡ true
 invalid_by_test d b e m = rw (day_missing d m, base_value b (λ n. omega (arith, n))) (true_from_ne_false _ (none_on_missing b))
-
-pub valid_seen : (d b : ℕ) → b ≡ 1000 * d → is_invalid_base (day_of d) (base_of b) ≡ false → limb_day d b ≡ some d
-valid_seen d b e v = seen_by_test d b e (λ m. true≢false (sym (invalid_by_test d b e m) ∙ v))
 
 pub view_few : (days base : List ℕ) → length (limb_days days base) ≤ length days
 unfolding limb_days

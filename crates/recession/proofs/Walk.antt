@@ -1,10 +1,12 @@
 -- The walk over the days as the code goes it: from one run to the next, and so from limb to limb.
 -- Assumes nothing.
-use Prim.Native.Nat.{ℕ, suc, ◌+◌, ◌-◌, ◌≤◌, ◌<◌}
+use Prim.Native.Nat.{ℕ, suc, ◌*◌, ◌+◌, ◌-◌, ◌≤◌, ◌<◌}
 use mathlib.Core.Path.{◌≡◌, refl, sym, ◌∙◌, ap, ap₂}
 use mathlib.Core.Bool.{Bool, true, false, ◌||◌}
 use mathlib.Core.List.{List, [], ◌∷◌}
 use mathlib.Core.Option.{Option, none, some}
+use mathlib.Core.Logic.{inl, inr}
+use native.Mathlib.Decide.{ℕ_discrete}
 use native.Mathlib.Omega.{arith}
 use borrow.Author.Tests.{ltb-true, lt-ltb, le-ltb, le-leb, lt-leb}
 use lib.ListN.{length, get_or, take, drop, length-take, length-drop, drop_of_length-le}
@@ -14,14 +16,14 @@ use lib.Seq.{drop-cons, drop-drop}
 use Rattle.numbers.specs.Lists.{selected}
 use Rattle.numbers.proofs.Selection.{selected_none, selected_pass, selected_fail}
 use Rattle.series.specs.declared.Refusal.{Refusal}
-use Rattle.series.specs.Units.{day_of, base_of}
+use Rattle.series.specs.Units.{day_of, base_of, missing_mark}
 use Rattle.series.specs.Lists.{is_invalid_base, any_invalid_base}
 use Rattle.series.specs.Runs.{joined, Longest, further, runs_from}
 use Rattle.series.proofs.Tests.{no_invalid_base, any_base}
 use Rattle.series.proofs.Runs.{joined_none, joined_after_gap, joined_days, run_joins, first_run, further_none, further_stops, further_goes_on, further_length, walk_gap, walk_run, walk_end}
 use Rattle.recession.specs.Limbs.{Limb, limb_day, limb_days, falls, has_at_least}
 use Rattle.recession.specs.Private.{Falling, falls_from, limbs_from, invalid_from, SeenAt, InvalidFrom, FirstAtBase, run_end, run_at, LimbAt}
-use Rattle.recession.proofs.Days.{limb_flow, limb_valid, view_few, view_cons, view_drop}
+use Rattle.recession.proofs.Days.{limb_flow, limb_valid, seen_by_test, unseen_by_test, view_few, view_cons, view_drop}
 
 -- a longest fall, and so the fall behind a day, goes strictly down
 pub run_falling : {days : List (Option ℕ)} {start : ℕ} {flows : List ℕ} → Longest falls days start flows → Falling flows
@@ -96,6 +98,13 @@ module _ (days base : List ℕ) (last p : ℕ) (same : length base ≡ length da
 
   pub falls_not_over : p < length days → limb_day (get_or days p 0) (get_or base p 0) ≡ none → to_fall days base last p ≡ 0
   falls_not_over h e = by_view h e ∙ ap length (further_stops falls (some last) none (drop (suc p) (limb_days days base)) (joined_none falls (some last)))
+
+  -- by the tests of the code: a day that is not at base, and one whose number is not below the last flow
+  pub falls_on_no_base : p < length days → (get_or base p 0 ≡ 1000 * get_or days p 0 → ⊥) → to_fall days base last p ≡ 0
+  falls_on_no_base h n = falls_not_over h (unseen_by_test _ _ (inr n))
+
+  pub falls_no_lower : p < length days → get_or base p 0 ≡ 1000 * get_or days p 0 → last ≤ get_or days p 0 → to_fall days base last p ≡ 0
+  falls_no_lower h e g = elim (ℕ_discrete (get_or days p 0) missing_mark) [ yes m ↦ falls_not_over h (unseen_by_test _ _ (inl (e, m))) | no m ↦ falls_no_more h (seen_by_test _ _ e m) g ]
 
 pub falls_out : (days base : List ℕ) (last p : ℕ) → length days ≤ p → to_fall days base last p ≡ 0
 unfolding to_fall

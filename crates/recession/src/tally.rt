@@ -11,7 +11,7 @@ fn ratio(earlier: u32, later: u32) -> u64
     requires { later < earlier }
     ensures { result ≡ ratio earlier later }
 {
-    numbers::near(10_000 * u64::from(later), u64::from(earlier))
+    numbers::near_small(10_000 * u64::from(later), u64::from(earlier))
 }
 
 // Counts the ratios of one limb, each at its value.

@@ -1,13 +1,14 @@
 -- What stands at the front of bytes, by its first byte and the bytes behind that.
 -- Assumes nothing.
-use Prim.Native.Nat.{ℕ, ◌<◌}
-use mathlib.Core.Path.{◌≡◌, ◌∙◌, ap}
+use Prim.Native.Nat.{ℕ, suc, ◌+◌, ◌<◌}
+use mathlib.Core.Path.{◌≡◌, sym, ◌∙◌, ap}
 use mathlib.Core.Bool.{Bool, true, false}
 use mathlib.Core.List.{List, [], ◌∷◌}
 use mathlib.Core.Option.{some, none}
 use native.Mathlib.Omega.{arith}
 use borrow.Author.Tests.{lt-ltb, le-ltb}
-use lib.ListN.{length, take, length-take}
+use lib.ListN.{length, get_or, take, drop, length-take}
+use lib.Seq.{drop-cons, drop-drop}
 use Rattle.series.specs.Causes.{first_cause}
 use Rattle.record.specs.declared.entry.Kind.{Kind}
 use Rattle.record.specs.declared.entry.Entry.{Entry as Found}
@@ -41,3 +42,11 @@ whole first n room (b ∷ bs) e p =
     let w = p.whole in
     let t = le-ltb (length (take (body_length (kind_of b)) bs)) (body_length (kind_of b)) w.complete in
     rw (w.value, w.behind) (simp (w.kind, p.placed, rw w.kind at t))
+
+-- bytes from a position on, by the byte there and the bytes behind it
+module _ (s : List ℕ) (at : ℕ) where
+  pub from_here : at < length s → drop at s ≡ get_or s at 0 ∷ drop (at + 1) s
+  from_here h = let next : suc at ≡ at + 1 = omega arith in drop-cons s at 0 h ∙ ap (λ n. get_or s at 0 ∷ drop n s) next
+
+  pub behind_here : (n : ℕ) → drop (at + (1 + n)) s ≡ drop n (drop (at + 1) s)
+  behind_here n = let all : at + (1 + n) ≡ at + 1 + n = omega arith in ap (λ k. drop k s) all ∙ sym (drop-drop n (at + 1) s)

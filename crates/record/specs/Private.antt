@@ -6,6 +6,7 @@ use Rattle.series.specs.Causes.{Cause, cause, Outcome, accepted, refused}
 use Rattle.record.specs.declared.entry.Kind.{Kind}
 use Rattle.record.specs.declared.entry.Kind.TheVariants.{Flow, MissingDay, MissingDays}
 use Rattle.record.specs.declared.entry.Entry.{Entry as Found}
+use Rattle.record.specs.declared.entry.Entries.{Entries}
 use Rattle.record.specs.Entries.{Entry, entry_of, body_length, misplaced, value, entry_causes, out_of_range, days_of, is_end}
 
 -- the entry at the front of bytes; where there are none, one of no kind
@@ -58,6 +59,10 @@ states_days _ = false
 pub record DaysInFront (bytes : List ℕ) : Type 0 where
   pub stating : states_days (front bytes).kind ≡ true
   pub complete : body_length (front bytes).kind ≤ length (front bytes).body
+
+-- the bytes that the iterator of entries has left
+abbrev pub left : Entries → List ℕ
+left s = drop s.at s.bytes.now
 
 -- the entries of days, one by one: the one in front and the bytes behind it, or none where no such entry stands there
 abbrev pub NextEntry : List ℕ → Perhaps Found → List ℕ → Type 0

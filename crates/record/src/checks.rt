@@ -28,7 +28,7 @@ fn entry_in_place(bytes: &[u8], first: bool) -> Result<Entry<'_>, Refusal>
     if is_misplaced(kind, first) {
         return Err(Refusal::MisplacedHead);
     }
-    Entry::of_kind(kind, body).ok_or(Refusal::Truncated)
+    Entry::of_kind(kind, body, 0).ok_or(Refusal::Truncated)
 }
 
 // The checks of a whole entry behind `counted` days, for a list of `room` days: value, total days, list space, and of an
@@ -43,8 +43,11 @@ fn count_on(entry: Entry<'_>, counted: usize, room: usize) -> Result<usize, Refu
     // Kept: `as`, since std has no From between u32 and usize, and TryFrom would add an error that never comes.
     let wrong_count = entry.value as usize != counted;
     refuse_if(entry.is_out_of_range(), Refusal::ValueOutOfRange)?;
-    refuse_if(DAY_LIMIT < with_own, Refusal::TooManyDays)?;
-    refuse_if(room < with_own, Refusal::DayListTooShort)?;
+    // One test for both limits, since a walk over many entries reaches neither.
+    if DAY_LIMIT.min(room) < with_own {
+        refuse_if(DAY_LIMIT < with_own, Refusal::TooManyDays)?;
+        refuse_if(room < with_own, Refusal::DayListTooShort)?;
+    }
     refuse_if(end && wrong_count, Refusal::WrongEndCount)?;
     refuse_if(end && !entry.behind.is_empty(), Refusal::BytesAfterEnd)?;
     Ok(with_own)
@@ -77,7 +80,7 @@ pub(crate) fn check_days(bytes: &[u8], room: usize) -> Result<u32, Refusal>
 {
     let mut rest = bytes;
     let mut counted = 0;
-    for entry in Entries(bytes) {
+    for entry in Entries::of(bytes) {
         counted = count_on(entry, counted, room)?;
         rest = entry.behind;
     }

@@ -5,7 +5,7 @@ ghost use Rattle.std.specs.Iterator.{at_most};
 ghost use Rattle.std.proofs.Math.Option.{some, none};
 ghost use Rattle.series.specs.declared.Refusal.TheVariants.{UnknownKind};
 ghost use Rattle.record.specs.Entries.{kind_of, body_length, out_of_range, days_of};
-ghost use Rattle.record.specs.Private.{OfKind, NextEntry};
+ghost use Rattle.record.specs.Private.{OfKind, left, NextEntry};
 ghost use Rattle.record.specs.Writing.{byte_of};
 
 use series::{FLOW_LIMIT, Refusal};
@@ -37,6 +37,17 @@ impl Kind {
         ensures { result ≡ byte_of self }
     {
         self as u8
+    }
+
+    // How many bytes its body has.
+    fn body_len(self) -> usize
+        ensures { result ≡ body_length (some self) }
+    {
+        match self {
+            Kind::MissingDay => 0,
+            Kind::MissingDays => 2,
+            Kind::Head | Kind::Flow | Kind::End => 4,
+        }
     }
 }
 
@@ -70,27 +81,28 @@ pub(crate) struct Entry<'a> {
 }
 
 impl<'a> Entry<'a> {
-    // The entry of a kind whose body comes first in `bytes`, the lowest byte of its number first; none where they end
-    // within the body.
+    // The entry of a kind whose body stands in `bytes` from a position on, the lowest byte of its number first; none where
+    // they end within the body.
     #[tactic(auto, using(series::proofs::Bytes::two_read, series::proofs::Bytes::four_read), unfolding(series::specs::Units::number))]
-    pub(crate) fn of_kind(kind: Kind, bytes: &'a [u8]) -> Option<Entry<'a>>
-        ensures { MatchOption result (length bytes.now < body_length (some kind)) (λ entry. OfKind kind bytes.now entry) }
+    pub(crate) fn of_kind(kind: Kind, bytes: &'a [u8], at: usize) -> Option<Entry<'a>>
+        requires { at ≤ length bytes.now }
+        ensures { MatchOption result (length (drop at bytes.now) < body_length (some kind)) (λ entry. OfKind kind (drop at bytes.now) entry) }
     {
-        let (value, behind) = match kind {
-            Kind::MissingDay => (0, bytes),
+        let value = match kind {
+            Kind::MissingDay => 0,
             Kind::MissingDays => {
-                let (body, behind) = bytes.split_first_chunk::<2>()?;
-                (u32::from(u16::from_le_bytes(*body)), behind)
+                let body = bytes.get(at..at + 2)?.first_chunk::<2>()?;
+                u32::from(u16::from_le_bytes(*body))
             }
             Kind::Head | Kind::Flow | Kind::End => {
-                let (body, behind) = bytes.split_first_chunk::<4>()?;
-                (u32::from_le_bytes(*body), behind)
+                let body = bytes.get(at..at + 4)?.first_chunk::<4>()?;
+                u32::from_le_bytes(*body)
             }
         };
         Some(Entry {
             kind,
             value,
-            behind,
+            behind: &bytes[at + kind.body_len()..],
         })
     }
 
@@ -120,25 +132,37 @@ impl<'a> Entry<'a> {
     }
 }
 
-// The entries of days at the front of bytes, up to what is no whole one.
+// The entries of days in bytes from a position on, up to what is no whole one. (By position, since a slice that gets shorter
+// costs its walks up to twice the time.)
 #[derive(Drop)]
-pub(crate) struct Entries<'a>(pub(crate) &'a [u8]);
+pub(crate) struct Entries<'a> {
+    bytes: &'a [u8],
+    at: usize,
+}
+
+impl<'a> Entries<'a> {
+    // From the start on.
+    pub(crate) fn of(bytes: &'a [u8]) -> Entries<'a>
+        ensures { left result ≡ bytes.now }
+    {
+        Entries { bytes, at: 0 }
+    }
+}
 
 impl<'a> Iterator for Entries<'a> {
     type Item = Entry<'a>;
 
-    ghost next_gives = { λ s r t. NextEntry s.0.now r t.0.now };
+    ghost next_gives = { λ s r t. NextEntry (left s) r (left t) };
 
-    ghost remaining = { λ s. at_most (length s.0.now) };
+    ghost remaining = { λ s. at_most (length (left s)) };
 
     fn next(&mut self) -> Option<Entry<'a>> {
-        let (byte, body) = self.0.split_first()?;
-        let kind = Kind::try_from(*byte).ok()?;
+        let kind = Kind::try_from(*self.bytes.get(self.at)?).ok()?;
         if matches!(kind, Kind::Head | Kind::End) {
             return None;
         }
-        let entry = Entry::of_kind(kind, body)?;
-        self.0 = entry.behind;
+        let entry = Entry::of_kind(kind, self.bytes, self.at + 1)?;
+        self.at += 1 + kind.body_len();
         Some(entry)
     }
 }

@@ -16,7 +16,7 @@ pub(crate) fn write_days(bytes: &[u8], days: &mut [u32])
     days.fill(MISSING);
     // Kept: by position, since with `split_at_mut` the loop would hand on what is left of the list, and be as long.
     let mut counted = 0;
-    for entry in Entries(bytes) {
+    for entry in Entries::of(bytes) {
         if entry.kind == Kind::Flow {
             days[counted] = entry.value;
         }

@@ -11,7 +11,7 @@ use borrow.Author.Tests.{eq-eqb}
 use lib.Dec.{eqb}
 use Rattle.std.specs.Prelude.{Result, Ok, Err}
 use Rattle.series.specs.declared.Refusal.{Refusal}
-use Rattle.series.specs.Causes.{refusal_number, refusal_of, Cause, first_cause, by_cause, accepted, refused, outcome, leaves, Decides}
+use Rattle.series.specs.Causes.{refusal_number, refusal_of, Cause, cause, first_cause, by_cause, accepted, refused, outcome, leaves, Decides}
 
 -- no cause holds
 pub data AllFalse : List Cause → Type 0 where
@@ -141,6 +141,16 @@ first_append (c ∷ cs) ds = by_test c.holds (first_append cs ds)
 -- A check, cause by cause: `series::refuse_if` tests one, and `?` ends the check at the first that holds.
 pub decides_none : Decides [] (Ok tt)
 decides_none = record { first = refl }
+
+-- a cause behind others, whose test need only be right where none of those holds
+pub decides_then : {cs : List Cause} {v w : Result Unit Refusal} {holds test : Bool} (n : ℕ) → (((k : ℕ) → holds_of k cs ≡ false) → holds ≡ test) → refusal_of w ≡ or_else (refusal_of v) (cond holds (some n) none) → Decides cs v → Decides (cs ++ cause test n ∷ []) w
+unfolding or_else
+decides_then {cs} {holds = holds} {test} n e next d =
+    record { first = next ∙ ap (λ a. or_else a (cond holds (some n) none)) d.first ∙ by_first (first_cause cs) (λ g. e (passed cs g)) ∙ sym (first_append cs (cause test n ∷ [])) }
+  where
+    by_first : (o : Option ℕ) → (o ≡ none → holds ≡ test) → or_else o (cond holds (some n) none) ≡ or_else o (cond test (some n) none)
+    by_first none g = ap (λ b. cond b (some n) none) (g refl)
+    by_first (some k) g = refl
 
 -- causes of which one holds, whatever causes are behind them
 pub decides_alone : {cs : List Cause} (ds : List Cause) {v : Result Unit Refusal} {r : Refusal} → Decides cs v → v ≡ Err r → Decides (cs ++ ds) (Err r)

@@ -3,7 +3,7 @@
 -- Assumes nothing.
 use Prim.Native.Nat.{ℕ, suc, ◌+◌, ◌/◌, ◌≤◌, ◌<◌, min, max}
 use mathlib.Core.Path.{◌≡◌, refl, sym, ◌∙◌, ap}
-use mathlib.Core.Bool.{Bool, true, false, not, true≢false}
+use mathlib.Core.Bool.{Bool, true, false, not, cond, true≢false}
 use mathlib.Core.List.Memᴰ
 use mathlib.Core.List.{List, [], ◌∷◌, map, Memᴰ}
 use mathlib.Core.Option.{Option, none, some}
@@ -11,10 +11,11 @@ use mathlib.Core.Logic.{◌⊎◌, inl, inr, ⊎_elim}
 use native.Mathlib.Nat.{le_of_lt, lt_of_not-le, min-eq_left, min-eq_right, max-eq_left, max-eq_right}
 use native.Mathlib.Decide.{dec_le, ℕ_discrete}
 use native.Mathlib.Omega.{arith}
-use lib.Dec.{leb, ltb, eqb}
+use lib.Dec.{leb, ltb, eqb, leb-suc-suc}
 use lib.ListN.{length}
 use borrow.Author.Tests.{eq-eqb, ne_eqb, leb-true, le-leb, ltb-true, lt-ltb, le-ltb}
 use Rattle.std.specs.Prelude.{Option as Held, Some, None, MatchOption}
+use mir.Val.{bool_byte as from_bool}
 use Rattle.std.specs.Option.{option_map, unwrap_or}
 use Rattle.std.specs.List.{AllWithin, HoldsAt, filter, fold, reduce}
 use Rattle.numbers.specs.Arithmetic.{rounded}
@@ -50,6 +51,36 @@ smaller_counted v test h e (x ∷ xs) =
           let l = lt_of_not-le g in
           rw (lt-ltb x v l, base_value x (λ m. absurd (omega arith))) (ap suc rest ∙ sym (below_smaller v x _ l))
     ])
+
+-- The two counts of a rank on the way over a day's numbers: with what the numbers that are left add, they are those of the
+-- day's values; and neither is more than there are numbers.
+pub record Ranking (v most : ℕ) (left values : List ℕ) (smaller up_to : ℕ) : Type 0 where
+  pub fewer : smaller + length (filter (λ x. ltb x v) left) ≡ below v values
+  pub enough : up_to + length (filter (λ x. leb x v) left) ≡ below (suc v) values
+  pub room : (smaller + length left ≤ most) × (up_to + length left ≤ most)
+
+pub ranking_start : (v : ℕ) → v < no_value_mark → (xs : List ℕ) {most : ℕ} → length xs ≤ most → Ranking v most xs (present (map base_of xs)) 0 0
+ranking_start v h xs few =
+    let smaller = smaller_counted v (λ x. ltb x v) (omega arith) (λ x. refl) xs in
+    let up_to = smaller_counted (suc v) (λ x. leb x v) (omega arith) (λ x. sym (leb-suc-suc x v)) xs in
+    record { fewer = omega (arith, smaller); enough = omega (arith, up_to); room = omega (arith, few) }
+
+counted_on : (b : Bool) (x : ℕ) (xs : List ℕ) → length (cond b (x ∷ xs) xs) ≡ from_bool b + length xs
+counted_on true x xs = omega arith
+counted_on false x xs = omega arith
+
+one_at_most : (b : Bool) → from_bool b ≤ 1
+one_at_most true = omega arith
+one_at_most false = omega arith
+
+pub ranking_turn : {v most x smaller up_to : ℕ} {xs values : List ℕ} → Ranking v most (x ∷ xs) values smaller up_to → Ranking v most xs values (smaller + from_bool (ltb x v)) (up_to + from_bool (leb x v))
+ranking_turn {v} {most} {x} {smaller} {up_to} {xs} {values} r =
+    let below_v : length (filter (λ y. ltb y v) (x ∷ xs)) ≡ from_bool (ltb x v) + length (filter (λ y. ltb y v) xs) = counted_on (ltb x v) x _ in
+    let up_to_v : length (filter (λ y. leb y v) (x ∷ xs)) ≡ from_bool (leb x v) + length (filter (λ y. leb y v) xs) = counted_on (leb x v) x _ in
+    record { fewer = omega (arith, r.fewer, below_v); enough = omega (arith, r.enough, up_to_v); room = omega (arith, r.room, one_at_most (ltb x v), one_at_most (leb x v)) }
+
+pub ranking_end : {v most smaller up_to : ℕ} {values : List ℕ} → Ranking v most [] values smaller up_to → (smaller ≡ below v values) × (up_to ≡ below (suc v) values)
+ranking_end r = let fewer = r.fewer in let enough = r.enough in (omega arith, omega arith)
 
 -- the test of a rank, by the two counts
 module _ (k v : ℕ) (l : List ℕ) {smaller : ℕ} (s : smaller ≡ below v l) where

@@ -70,7 +70,14 @@ impl<'a> DayValues<'a> {
         requires { v < no_value_mark }
         ensures { result ≡ has_rank k v (values_of self.entry) }
     {
-        self.count(|x| *x < v) < k && k <= self.count(|x| *x <= v)
+        let mut smaller = 0;
+        let mut up_to = 0;
+        // Kept: a loop for both counts, since each by itself walks over all lines, and the median takes up to 1.5 times as long.
+        for number in self {
+            smaller += usize::from(number < v);
+            up_to += usize::from(number <= v);
+        }
+        smaller < k && k <= up_to
     }
 
     // The middle one of the values, and of two middle ones the lower.

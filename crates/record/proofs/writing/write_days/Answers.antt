@@ -10,7 +10,7 @@ use Rattle.record.proofs.writing.write_days.Goals.{then-eq, else-eq}
 
 pub loop-entry-init : goal.loop-entry-init
 loop-entry-init c =
-    rw c.into_iter-entry-iterator.ensures.into_iter_gives (begin_writing c.args.bytes.now (length c.args.days.now) (c.fill.ensures.after (λ y e. e)))
+    rw (c.into_iter-entry-iterator.ensures.into_iter_gives, c.of-entry-items.ensures) (begin_writing c.args.bytes.now (length c.args.days.now) (c.fill.ensures.after (λ y e. e)))
 
 pub bounds-days-counted : goal.bounds-days-counted
 bounds-days-counted c =
